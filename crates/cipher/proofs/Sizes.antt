@@ -1,0 +1,10 @@
+-- The largest numbers of the two rows. Assumes nothing.
+use Prim.Native.Nat.{_≤_}
+use native.Mathlib.Omega.{arith}
+use Rattle.cipher.specs.declared.Cipher.{Cipher}
+use Rattle.cipher.specs.declared.Cipher.the-variants.{Hc128, Hc256}
+use Rattle.cipher.specs.Numbers.{areaLength, keyLength, ivLength}
+
+pub sizes : (c : Cipher) → (areaLength c ≤ 2048) × (keyLength c ≤ 32) × (ivLength c ≤ 32)
+sizes Hc128 = omega arith
+sizes Hc256 = omega arith

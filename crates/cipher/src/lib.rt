@@ -1,0 +1,69 @@
+// The two ciphers and their numbers, one row each.
+ghost use mathlib.Core.Path.{_≡_};
+ghost use Prim.Native.Nat.{_≤_};
+ghost use Rattle.cipher.specs.Numbers as Numbers;
+
+pub enum Cipher {
+    Hc128,
+    Hc256,
+}
+
+// The numbers of a cipher: its code, the words of a table (T), the bytes of a key and of an IV, and the words of the expansion.
+pub struct Row {
+    pub code: u8,
+    pub table: usize,
+    pub key: usize,
+    pub iv: usize,
+    pub expansion: usize,
+}
+
+pub const ROWS: [Row; 2] = [
+    Row {
+        code: 1,
+        table: 512,
+        key: 16,
+        iv: 16,
+        expansion: 1280,
+    },
+    Row {
+        code: 2,
+        table: 1024,
+        key: 32,
+        iv: 32,
+        expansion: 2560,
+    },
+];
+
+// The row of a cipher.
+pub fn row_of(cipher: Cipher) -> Row
+    ensures { λ r. ⌜ r ≡ Numbers.rowOf cipher ⌝ }
+{
+    match cipher {
+        Cipher::Hc128 => ROWS[0],
+        Cipher::Hc256 => ROWS[1],
+    }
+}
+
+// The words of a table area, 2T.
+pub fn area_words(cipher: Cipher) -> usize
+    ensures { λ r. ⌜ (r ≡ Numbers.areaLength cipher) × (r ≤ 2048) ⌝ }
+{
+    let row = row_of(cipher);
+    2 * row.table
+}
+
+// The bytes of a key.
+pub fn key_bytes(cipher: Cipher) -> usize
+    ensures { λ r. ⌜ (r ≡ Numbers.keyLength cipher) × (r ≤ 32) ⌝ }
+{
+    let row = row_of(cipher);
+    row.key
+}
+
+// The bytes of an IV.
+pub fn iv_bytes(cipher: Cipher) -> usize
+    ensures { λ r. ⌜ (r ≡ Numbers.ivLength cipher) × (r ≤ 32) ⌝ }
+{
+    let row = row_of(cipher);
+    row.iv
+}

@@ -1,0 +1,32 @@
+-- The keystream and the ciphering of bytes, byte by byte.
+use mathlib.Core.Bool.{cond}
+use mathlib.Core.List.{List, [], _∷_}
+use Prim.Native.Nat.{ℕ, suc, _+_, _/_, _%_}
+use lib.Dec.{eqb}
+use Rattle.laws.specs.Iterate.{forward}
+use Rattle.word.specs.Word.{_⊕_}
+use Rattle.word.specs.Bytes.{byte}
+use Rattle.cipher.specs.declared.Cipher.{Cipher}
+use Rattle.tables.specs.Step.{step, output}
+use Rattle.keystream.specs.Steps.{steps}
+
+-- keystream byte p: byte p mod 4 of the output of step p/4, where s are the tables after that step
+abbrev pub keyByte : Cipher → List ℕ → ℕ → ℕ
+keyByte c s p = byte (p % 4) (output c s (p / 4))
+
+-- keystream byte p, where s are the tables that set-up leaves
+unfoldable pub keystream : Cipher → List ℕ → ℕ → ℕ
+keystream c s p = keyByte c (steps c s 0 (p / 4 + 1)) p
+
+-- the tables at position p + 1, where s are those at position p: a step is taken where a word begins
+unfoldable pub tablesNext : Cipher → List ℕ → ℕ → List ℕ
+tablesNext c s p = cond (eqb (p % 4) 0) (step c s (p / 4)) s
+
+-- the tables n bytes on from position p
+abbrev pub tablesAfter : Cipher → List ℕ → ℕ → ℕ → List ℕ
+tablesAfter c = forward (tablesNext c)
+
+-- each byte's exclusive or with its keystream byte, from position p on, where s are the tables at p
+unfoldable pub ciphered : Cipher → List ℕ → ℕ → List ℕ → List ℕ
+ciphered c s p [] = []
+ciphered c s p (b ∷ bs) = (b ⊕ keyByte c (tablesNext c s p) p) ∷ ciphered c (tablesNext c s p) (suc p) bs

@@ -1,0 +1,18 @@
+-- Many steps of a cipher, forward and back, and how many a byte position stands for.
+use mathlib.Core.List.{List}
+use Prim.Native.Nat.{ℕ, _+_, _/_}
+use Rattle.laws.specs.Iterate.{forward, backward}
+use Rattle.cipher.specs.declared.Cipher.{Cipher}
+use Rattle.tables.specs.Step.{step, stepBack}
+
+-- the steps i to i + n - 1
+abbrev pub steps : Cipher → List ℕ → ℕ → ℕ → List ℕ
+steps c = forward (step c)
+
+-- the same steps undone, last first
+abbrev pub stepsBack : Cipher → List ℕ → ℕ → ℕ → List ℕ
+stepsBack c = backward (stepBack c)
+
+-- 'at position p the tables have taken p/4 steps since set-up, rounded up'
+abbrev pub stepsAt : ℕ → ℕ
+stepsAt p = (p + 3) / 4

@@ -1,0 +1,26 @@
+-- How the code goes by words: exclusive or of lent bytes with bytes of a word. Only the contracts of this crate's own parts cite it.
+use mathlib.Core.List.{List}
+use Prim.Native.Nat.{ℕ, _+_, _-_, _*_, _%_, min}
+use lib.ListN.{getD, set}
+use Rattle.laws.specs.Iterate.{forward}
+use Rattle.word.specs.Word.{_⊕_}
+use Rattle.word.specs.Bytes.{byte}
+use Rattle.cipher.specs.declared.Cipher.{Cipher}
+use Rattle.tables.specs.Step.{output}
+use Rattle.keystream.specs.Steps.{steps}
+
+-- the byte at place start + k with byte from + k of the word w
+abbrev pub xorByte : ℕ → ℕ → ℕ → List ℕ → ℕ → List ℕ
+xorByte start w from bs k = set bs (start + k) (getD bs (start + k) 0 ⊕ byte (from + k) w)
+
+-- n bytes from place start on with the bytes of w from byte `from` on
+abbrev pub xorPart : ℕ → ℕ → ℕ → ℕ → List ℕ → List ℕ
+xorPart start n w from bs = forward (xorByte start w from) bs 0 n
+
+-- the four bytes at place start + 4 k with the output of step i + k, where s are the tables before step i
+abbrev pub xorWord : Cipher → List ℕ → ℕ → ℕ → List ℕ → ℕ → List ℕ
+xorWord c s i start bs k = xorPart (start + 4 * k) 4 (output c (steps c s i (k + 1)) (i + k)) 0 bs
+
+-- how many of n bytes from position p on lie in the word that p is inside; none where a word begins at p
+abbrev pub inWord : ℕ → ℕ → ℕ
+inWord p n = min ((4 - p % 4) % 4) n

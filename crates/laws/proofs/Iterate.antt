@@ -1,0 +1,65 @@
+-- Changes that are undone one by one are undone in a row. P is what the states keep. Assumes nothing.
+use mathlib.Core.Path.{_≡_, refl}
+use Prim.Native.Nat.{ℕ, zero, suc, _+_, _-_, _<_}
+use native.Mathlib.Nat.{add-zero, add-suc, add-assoc}
+use native.Mathlib.Numerals.{add-one}
+use native.Mathlib.Omega.{arith}
+use Rattle.laws.specs.Iterate.{forward, backward}
+
+module _ {A : Type 0} (P : A → Type 0) (f g : A → ℕ → A) where
+  pub forward-kept : ((s : A) (i : ℕ) → P s → P (f s i)) → (s : A) (i n : ℕ) → P s → P (forward f s i n)
+  unfolding forward
+  forward-kept kept s i zero p = p
+  forward-kept kept s i (suc n) p = kept _ (i + n) (forward-kept kept s i n p)
+
+  pub backward-kept : ((s : A) (i : ℕ) → P s → P (g s i)) → (s : A) (i n : ℕ) → P s → P (backward g s i n)
+  unfolding backward
+  backward-kept kept s i zero p = p
+  backward-kept kept s i (suc n) p = backward-kept kept _ i n (kept s (i + n) p)
+
+  pub backward-forward : ((s : A) (i : ℕ) → P s → P (f s i)) → ((s : A) (i : ℕ) → P s → g (f s i) i ≡ s)
+      → (s : A) (i n : ℕ) → P s → backward g (forward f s i n) i n ≡ s
+  unfolding forward backward
+  backward-forward kept law s i zero p = refl
+  backward-forward kept law s i (suc n) p = rw (law (forward f s i n) (i + n) (forward-kept kept s i n p)) (backward-forward kept law s i n p)
+
+  pub forward-backward : ((s : A) (i : ℕ) → P s → P (g s i)) → ((s : A) (i : ℕ) → P s → f (g s i) i ≡ s)
+      → (s : A) (i n : ℕ) → P s → forward f (backward g s i n) i n ≡ s
+  unfolding forward backward
+  forward-backward kept law s i zero p = refl
+  forward-backward kept law s i (suc n) p = rw (forward-backward kept law (g s (i + n)) i n (kept s (i + n) p)) (law s (i + n) p)
+
+-- for a loop: one change more, one fewer, none left
+module _ {A : Type 0} where
+  pub forward-more : (f : A → ℕ → A) (s : A) (i n : ℕ) → forward f s i (n + 1) ≡ f (forward f s i n) (i + n)
+  unfolding forward
+  forward-more f s i n = rw add-one refl
+
+  pub backward-less : (g : A → ℕ → A) (s : A) (i n : ℕ) → 0 < n → backward g s i n ≡ backward g (g s (i + (n - 1))) i (n - 1)
+  unfolding backward
+  backward-less g s i (suc n) h = let e : suc n - 1 ≡ n = omega arith in rw e refl
+
+  pub backward-none : (g : A → ℕ → A) (s : A) (i : ℕ) → backward g s i 0 ≡ s
+  unfolding backward
+  backward-none g s i = refl
+
+  pub forward-none : (f : A → ℕ → A) (s : A) (i : ℕ) → forward f s i 0 ≡ s
+  unfolding forward
+  forward-none f s i = refl
+
+  pub forward-one : (f : A → ℕ → A) (s : A) (i : ℕ) → forward f s i 1 ≡ f s i
+  unfolding forward
+  forward-one f s i = rw add-zero
+
+  -- n changes and then m more
+  pub forward-add : (f : A → ℕ → A) (s : A) (i n m : ℕ) → forward f (forward f s i n) (i + n) m ≡ forward f s i (n + m)
+  unfolding forward
+  forward-add f s i n zero = rw add-zero
+  forward-add f s i n (suc m) = rw (add-suc, forward-add f s i n m, add-assoc)
+
+  -- the first of the changes, and the rest
+  pub forward-first : (f : A → ℕ → A) (s : A) (i n : ℕ) → forward f s i (suc n) ≡ forward f (f s i) (suc i) n
+  forward-first f s i n =
+      let e : suc n ≡ 1 + n = omega arith in
+      let o : suc i ≡ i + 1 = omega arith in
+      rw (e, o, ← forward-add f s i 1 n, forward-one)

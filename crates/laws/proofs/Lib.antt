@@ -1,0 +1,4 @@
+pub mod Iterate
+pub mod Same
+pub mod Lists
+pub mod Loops

@@ -1,0 +1,2 @@
+pub mod Iterate
+pub mod Same

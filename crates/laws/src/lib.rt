@@ -1,0 +1,1 @@
+// Laws of iteration, lists and cases that several layers cite; no code.

@@ -1,0 +1,4 @@
+pub mod Expansion
+pub mod Key
+pub mod Origin
+pub mod Window

@@ -1,0 +1,14 @@
+-- `tables::step_back` meets its contract: A[j] falls by the feedback. Assumes nothing.
+use borrow.Author.Needs.{needs}
+use Rattle.tables.specs.Step.{stepBack}
+use Rattle.tables.proofs.step_back.Statement.{statement}
+use Rattle.tables.proofs.step_back.Tie as tie
+
+returns : tie.Need-returns
+unfolding stepBack
+returns c = cc
+
+pub step-back-spec : {M : Type 1} → statement M
+step-back-spec =
+    let a₁ = tie.spec (λ c κs. search needs) (λ c κs. search needs) (λ c. search needs) (λ c. search needs) in
+    tie.close (a₁ (λ c κs. search needs) (λ c. search needs) (λ c. search needs) (λ c. search needs) returns)

@@ -1,0 +1,3 @@
+pub mod Inverse
+pub mod Starred
+pub mod Stream

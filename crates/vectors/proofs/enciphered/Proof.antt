@@ -1,0 +1,19 @@
+-- `vectors::enciphered` meets its contract. The loop's invariant: the area and the buffer keep their lengths. Assumes nothing.
+use mathlib.Core.Path.{_≡_}
+use Prim.Native.Nat.{_-_, _≤_}
+use borrow.Author.Needs.{needs}
+use lib.ListN.{length}
+use Rattle.vectors.proofs.enciphered.Statement.{statement}
+use Rattle.vectors.proofs.enciphered.Tie as tie
+
+abbrev Inv-loop : tie.InvT-loop
+Inv-loop cipher area₀ blocks buffer₀ k₀ area buffer k = (length area ≡ length area₀) × (length buffer ≡ 64) × (k ≤ blocks)
+
+abbrev μ-loop : tie.MeasureT-loop
+μ-loop cipher area₀ blocks buffer₀ k₀ area buffer k = blocks - k
+
+pub enciphered-spec : {M : Type 1} → statement M
+enciphered-spec =
+    let a₁ = tie.spec Inv-loop μ-loop (λ c. search needs) (λ c. search needs) (λ c. search needs) in
+    let a₂ = a₁ (λ c κs. search needs) (λ c. search needs) (λ c. search needs) (λ c. search needs) in
+    tie.close (a₂ (λ c. search needs) (λ c. search needs))
