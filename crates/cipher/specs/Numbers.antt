@@ -1,5 +1,8 @@
 -- Document 01: 'the numbers of a cipher are kept in one row each: its code, table length T, key bytes, IV bytes and expansion length'.
+use mathlib.Core.Bool.{cond}
+use mathlib.Core.Option.{Option, none, some}
 use Prim.Native.Nat.{ℕ, _*_}
+use lib.Dec.{eqb}
 use Rattle.cipher.specs.declared.Cipher.{Cipher}
 use Rattle.cipher.specs.declared.Cipher.the-variants.{Hc128, Hc256}
 use Rattle.cipher.specs.declared.Row.{Row}
@@ -7,6 +10,13 @@ use Rattle.cipher.specs.declared.Row.{Row}
 abbrev pub rowOf : Cipher → Row
 rowOf Hc128 = record { code = 1; table = 512; key = 16; iv = 16; expansion = 1280 }
 rowOf Hc256 = record { code = 2; table = 1024; key = 32; iv = 32; expansion = 2560 }
+
+-- the cipher of a code, if there is one: the table is read by code
+abbrev pub codeOf : Cipher → ℕ
+codeOf c = rowOf c .code
+
+unfoldable pub byCode : ℕ → Option Cipher
+byCode code = cond (eqb code (codeOf Hc128)) (some Hc128) (cond (eqb code (codeOf Hc256)) (some Hc256) none)
 
 -- T, the words of a table
 abbrev pub tableLength : Cipher → ℕ

@@ -2,6 +2,7 @@
 ghost use mathlib.Core.Path.{_≡_};
 ghost use Prim.Native.Nat.{_≤_};
 ghost use Rattle.cipher.specs.Numbers as Numbers;
+ghost use Rattle.cipher.specs.Answers.{cipherIs};
 
 pub enum Cipher {
     Hc128,
@@ -42,6 +43,34 @@ pub fn row_of(cipher: Cipher) -> Row
         Cipher::Hc128 => ROWS[0],
         Cipher::Hc256 => ROWS[1],
     }
+}
+
+// The cipher of a code.
+pub enum Known {
+    Is(Cipher),
+    Unknown,
+}
+
+pub fn by_code(code: u8) -> Known
+    ensures { λ r. ⌜ cipherIs r ≡ Numbers.byCode code ⌝ }
+{
+    let first = ROWS[0];
+    if code == first.code {
+        return Known::Is(Cipher::Hc128);
+    }
+    let second = ROWS[1];
+    if code == second.code {
+        return Known::Is(Cipher::Hc256);
+    }
+    Known::Unknown
+}
+
+// The code of a cipher.
+pub fn code_of(cipher: Cipher) -> u8
+    ensures { λ r. ⌜ r ≡ Numbers.codeOf cipher ⌝ }
+{
+    let row = row_of(cipher);
+    row.code
 }
 
 // The words of a table area, 2T.

@@ -1,6 +1,8 @@
 -- Many steps of a cipher, forward and back, and how many a byte position stands for.
+use mathlib.Core.Bool.{cond}
 use mathlib.Core.List.{List}
-use Prim.Native.Nat.{ℕ, _+_, _/_}
+use Prim.Native.Nat.{ℕ, _+_, _-_, _/_}
+use lib.Dec.{leb}
 use Rattle.laws.specs.Iterate.{forward, backward}
 use Rattle.cipher.specs.declared.Cipher.{Cipher}
 use Rattle.tables.specs.Step.{step, stepBack}
@@ -16,3 +18,10 @@ stepsBack c = backward (stepBack c)
 -- 'at position p the tables have taken p/4 steps since set-up, rounded up'
 abbrev pub stepsAt : ℕ → ℕ
 stepsAt p = (p + 3) / 4
+
+-- the tables at position q, where s are those at position p
+unfoldable pub moved : Cipher → List ℕ → ℕ → ℕ → List ℕ
+moved c s p q =
+    cond (leb (stepsAt p) (stepsAt q))
+    (steps c s (stepsAt p) (stepsAt q - stepsAt p))
+    (stepsBack c s (stepsAt q) (stepsAt p - stepsAt q))

@@ -42,6 +42,20 @@ pub fn retreat(cipher: Cipher, area: &mut [u32], i: usize, n: usize)
     }
 }
 
+// The tables moved from position p to position q.
+pub fn move_tables(cipher: Cipher, area: &mut [u32], p: usize, q: usize)
+    requires { ⌜ (length (now area) ≡ areaLength cipher) × (p < 2 ^ 63) × (q < 2 ^ 63) ⌝ }
+    ensures { λ _. ⌜ now (area .exit) ≡ Steps.moved cipher (now (area .entry)) p q ⌝ }
+{
+    let from = steps_at(p);
+    let to = steps_at(q);
+    if from <= to {
+        advance(cipher, area, from, to - from);
+    } else {
+        retreat(cipher, area, to, from - to);
+    }
+}
+
 fn smaller(a: usize, b: usize) -> usize
     ensures { λ r. ⌜ r ≡ min a b ⌝ }
 {

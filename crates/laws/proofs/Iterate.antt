@@ -1,6 +1,6 @@
 -- Changes that are undone one by one are undone in a row. P is what the states keep. Assumes nothing.
-use mathlib.Core.Path.{_≡_, refl}
-use Prim.Native.Nat.{ℕ, zero, suc, _+_, _-_, _<_}
+use mathlib.Core.Path.{_≡_, refl, sym, ap, _∙_}
+use Prim.Native.Nat.{ℕ, zero, suc, _+_, _-_, _≤_, _<_}
 use native.Mathlib.Nat.{add-zero, add-suc, add-assoc}
 use native.Mathlib.Numerals.{add-one}
 use native.Mathlib.Omega.{arith}
@@ -56,6 +56,13 @@ module _ {A : Type 0} where
   unfolding forward
   forward-add f s i n zero = rw add-zero
   forward-add f s i n (suc m) = rw (add-suc, forward-add f s i n m, add-assoc)
+
+  -- the first i changes, and then those up to the first j
+  pub forward-from : (f : A → ℕ → A) (s : A) (i j : ℕ) → i ≤ j → forward f (forward f s 0 i) i (j - i) ≡ forward f s 0 j
+  forward-from f s i j l =
+      let start : 0 + i ≡ i = omega arith in
+      let sum : i + (j - i) ≡ j = omega arith in
+      ap (λ (k : ℕ). forward f (forward f s 0 i) k (j - i)) (sym start) ∙ forward-add f s 0 i (j - i) ∙ ap (forward f s 0) sum
 
   -- the first of the changes, and the rest
   pub forward-first : (f : A → ℕ → A) (s : A) (i n : ℕ) → forward f s i (suc n) ≡ forward f (f s i) (suc i) n

@@ -1,3 +1,12 @@
 pub mod Inverse
 pub mod Starred
 pub mod Stream
+pub mod Results
+pub mod Tables
+pub mod Conditions
+pub mod Checkpoints
+pub mod Names
+pub mod Agree
+pub mod Demand3
+pub mod Refusal12
+pub mod Demand2

@@ -1,0 +1,37 @@
+-- The length of a checkpoint, that it fits in the lent bytes, and its parts stored one after another. Assumes nothing.
+use mathlib.Core.Path.{_≡_, sym, ap, _∙_}
+use mathlib.Core.List.{List, _++_}
+use Prim.Native.Nat.{ℕ, _+_, _*_, _^_, _<_, _≤_}
+use native.Mathlib.Omega.{arith}
+use lib.ListN.{length, set, drop, length-append}
+use lib.Seq.{sets, sets-eq}
+use Rattle.word.specs.Bytes.{bytes}
+use Rattle.word.proofs.Bytes.{length-bytes}
+use Rattle.varint.specs.Number.{number}
+use Rattle.varint.proofs.Groups.{number-length}
+use Rattle.cipher.specs.declared.Cipher.{Cipher}
+use Rattle.cipher.specs.Numbers.{codeOf, areaLength}
+use Rattle.checkpoint.specs.Checkpoint.{layout, mostGroups, room}
+use Rattle.checkpoint.proofs.Stores.{sets-append}
+
+-- a position is below 2 ^ 28: it has at most four groups
+pub position-length : (p : ℕ) → p < 2 ^ 28 → length (number p) ≤ mostGroups
+position-length p l = number-length 4 p (omega arith) (omega arith) l
+
+module _ (c : Cipher) (p : ℕ) (s : List ℕ) where
+  pub layout-length : length s ≡ areaLength c → length (layout c p s) ≡ 1 + length (number p) + 4 * areaLength c
+  unfolding layout
+  layout-length e = omega (arith, length-append (number p) (bytes s), length-bytes s)
+
+  pub layout-room : length s ≡ areaLength c → p < 2 ^ 28 → length (layout c p s) ≤ room c
+  layout-room e l = omega (arith, layout-length e, position-length p l)
+
+  pub layout-stored : (lent : List ℕ) → length (layout c p s) ≤ length lent
+      → sets (sets (set lent 0 (codeOf c)) 1 (number p)) (1 + length (number p)) (bytes s)
+      ≡ layout c p s ++ drop (length (layout c p s)) lent
+  unfolding layout
+  layout-stored lent h =
+      let z : 0 + length (layout c p s) ≡ length (layout c p s) = omega arith in
+      sym (sets-append (set lent 0 (codeOf c)) 1 (number p) (bytes s))
+      ∙ sets-eq (layout c p s) lent 0 (omega arith)
+      ∙ ap (λ (n : ℕ). layout c p s ++ drop n lent) z

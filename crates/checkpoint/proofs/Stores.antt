@@ -1,0 +1,28 @@
+-- Lists stored one after another are their concatenation, stored, and so are words one after another. Assumes nothing.
+use mathlib.Core.Path.{_≡_, refl, sym, ap, _∙_}
+use mathlib.Core.List.{List, [], _∷_, _++_}
+use Prim.Native.Nat.{ℕ, suc, _+_, _*_, _<_}
+use native.Mathlib.Nat.{add-zero}
+use native.Mathlib.Numerals.{add-one}
+use native.Mathlib.Omega.{arith}
+use lib.ListN.{length, getD, take, set}
+use lib.Seq.{sets, take-suc, length-take-le}
+use Rattle.word.specs.Bytes.{byte, bytes}
+use Rattle.word.proofs.Bytes.{length-bytes}
+
+pub sets-append : (l : List ℕ) (i : ℕ) (xs ys : List ℕ) → sets l i (xs ++ ys) ≡ sets (sets l i xs) (i + length xs) ys
+sets-append l i [] ys = rw add-zero
+sets-append l i (x ∷ xs) ys =
+    let e : i + suc (length xs) ≡ suc i + length xs = omega arith in rw e (sets-append (set l i x) (suc i) xs ys)
+
+bytes-append : (xs ys : List ℕ) → bytes (xs ++ ys) ≡ bytes xs ++ bytes ys
+unfolding bytes
+bytes-append [] ys = refl
+bytes-append (x ∷ xs) ys = rw (bytes-append xs ys)
+
+-- one word more
+pub bytes-more : (l : List ℕ) (at k : ℕ) (s : List ℕ) → k < length s
+    → sets (sets l at (bytes (take k s))) (at + 4 * k) (bytes (getD s k 0 ∷ [])) ≡ sets l at (bytes (take (k + 1) s))
+bytes-more l at k s h =
+    let n : length (bytes (take k s)) ≡ 4 * k = length-bytes (take k s) ∙ ap (λ (j : ℕ). 4 * j) (length-take-le k s (omega arith)) in
+    rw (add-one, take-suc s k 0, bytes-append, sets-append, n)

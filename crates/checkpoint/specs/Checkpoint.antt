@@ -1,0 +1,18 @@
+-- Document 01, 'Checkpoint': 'one byte for the cipher code, the position as a number, then 2T words'.
+use mathlib.Core.List.{List, [], _∷_, _++_}
+use Prim.Native.Nat.{ℕ, _+_, _*_}
+use Rattle.word.specs.Bytes.{bytes}
+use Rattle.varint.specs.Number.{number}
+use Rattle.cipher.specs.declared.Cipher.{Cipher}
+use Rattle.cipher.specs.Numbers.{codeOf, areaLength}
+
+unfoldable pub layout : Cipher → ℕ → List ℕ → List ℕ
+layout c position s = codeOf c ∷ (number position ++ bytes s)
+
+-- 'a number has at most four groups'
+abbrev pub mostGroups : ℕ
+mostGroups = 4
+
+-- the lent bytes that write asks for: 4,101 (HC-128) or 8,197 (HC-256)
+abbrev pub room : Cipher → ℕ
+room c = 1 + mostGroups + 4 * areaLength c

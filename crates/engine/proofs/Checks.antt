@@ -1,0 +1,48 @@
+-- What the code's struct of a call's conditions says of their definition. Assumes nothing.
+use mathlib.Core.Path.{_≡_, sym, ap, _∙_}
+use mathlib.Core.Option.{some}
+use Prim.Native.Nat.{ℕ, _≤_}
+use borrow.Author.Tests.{eq-eqb, ne-eqb}
+use Rattle.cipher.specs.declared.Cipher.{Cipher}
+use Rattle.cipher.specs.declared.Cipher.the-variants.{Hc128}
+use Rattle.cipher.specs.Numbers.{areaLength, keyLength, ivLength}
+use Rattle.engine.specs.declared.Checked.{Checked}
+use Rattle.engine.specs.Result.{Result, refused, accepted}
+use Rattle.engine.specs.Head.{limit}
+use Rattle.engine.specs.Answers.{outcome, checkedIs, Sized, Ready}
+
+-- ---- what a caller learns
+
+module _ {A : Type 0} (n : ℕ) (a : A) (X : Result A) (e : outcome n a ≡ X) where
+  pub is-refused : (n ≡ 0 → ⊥) → X ≡ refused n
+  is-refused h = sym e ∙ rw (ne-eqb n 0 h)
+
+  pub is-accepted : n ≡ 0 → X ≡ accepted a
+  is-accepted h = sym e ∙ rw (eq-eqb n 0 h)
+
+-- ---- what the checks themselves show
+
+module _ (r : Checked) (X : Result Cipher) (n : ℕ) (some : n ≡ 0 → ⊥) (e : r ≡ record { refusal = n; cipher = Hc128 }) (x : X ≡ refused n) where
+  refused-is : checkedIs r ≡ X
+  refused-is = rw (e, x, ne-eqb n 0 some)
+
+  never : r .refusal ≡ 0 → ⊥
+  never z = some (sym (ap (λ (q : Checked). q .refusal) e) ∙ z)
+
+  pub refused-sized : (key iv size : ℕ) → (checkedIs r ≡ X) × Sized r key iv size
+  refused-sized key iv size =
+      (refused-is, record { key-is = λ z. absurd (never z); iv-is = λ z. absurd (never z); area-is = λ z. absurd (never z) })
+
+  pub refused-ready : (position size : ℕ) → (checkedIs r ≡ X) × Ready r position size
+  refused-ready position size = (refused-is, record { area-is = λ z. absurd (never z); within = λ z. absurd (never z) })
+
+module _ (r : Checked) (X : Result Cipher) (c : Cipher) (e : r ≡ record { refusal = 0; cipher = c }) (x : X ≡ accepted c) where
+  passed-is : checkedIs r ≡ X
+  passed-is = rw (e, x)
+
+  pub passed-sized : (key iv size : ℕ) → key ≡ keyLength c → iv ≡ ivLength c → size ≡ areaLength c
+      → (checkedIs r ≡ X) × Sized r key iv size
+  passed-sized key iv size k v s = (passed-is, record { key-is = λ z. rw e k; iv-is = λ z. rw e v; area-is = λ z. rw e s })
+
+  pub passed-ready : (position size : ℕ) → size ≡ areaLength c → position ≤ limit → (checkedIs r ≡ X) × Ready r position size
+  passed-ready position size s l = (passed-is, record { area-is = λ z. rw e s; within = λ z. l })

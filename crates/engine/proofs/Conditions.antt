@@ -1,0 +1,72 @@
+-- The conditions of the calls, line by line: which refusal is the first, and what is accepted. Assumes nothing.
+use mathlib.Core.Path.{_≡_}
+use mathlib.Core.Option.{none, some}
+use Prim.Native.Nat.{ℕ, _≤_, _<_}
+use borrow.Author.Tests.{eq-eqb, ne-eqb, le-leb, lt-leb}
+use Rattle.cipher.specs.declared.Cipher.{Cipher}
+use Rattle.cipher.specs.Numbers.{byCode, areaLength, keyLength, ivLength}
+use Rattle.engine.specs.declared.Head.{Head}
+use Rattle.engine.specs.Result.{refused, accepted}
+use Rattle.engine.specs.Head.{limit}
+use Rattle.engine.specs.Conditions.{setUpCheck, ready}
+use Rattle.engine.specs.Calls.{spent}
+
+-- ---- set up
+
+module _ (code key iv size : ℕ) where
+  pub set-up-unknown : byCode code ≡ none → setUpCheck code key iv size ≡ refused 1
+  unfolding setUpCheck
+  set-up-unknown e = rw e
+
+  module _ (c : Cipher) (e : byCode code ≡ some c) where
+    pub set-up-key : (key ≡ keyLength c → ⊥) → setUpCheck code key iv size ≡ refused 2
+    unfolding setUpCheck
+    set-up-key k = rw (e, ne-eqb key (keyLength c) k)
+
+    pub set-up-iv : key ≡ keyLength c → (iv ≡ ivLength c → ⊥) → setUpCheck code key iv size ≡ refused 3
+    unfolding setUpCheck
+    set-up-iv k v = rw (e, eq-eqb key (keyLength c) k, ne-eqb iv (ivLength c) v)
+
+    pub set-up-area : key ≡ keyLength c → iv ≡ ivLength c → (size ≡ areaLength c → ⊥) → setUpCheck code key iv size ≡ refused 4
+    unfolding setUpCheck
+    set-up-area k v s = rw (e, eq-eqb key (keyLength c) k, eq-eqb iv (ivLength c) v, ne-eqb size (areaLength c) s)
+
+    pub set-up-accepted : key ≡ keyLength c → iv ≡ ivLength c → size ≡ areaLength c → setUpCheck code key iv size ≡ accepted c
+    unfolding setUpCheck
+    set-up-accepted k v s = rw (e, eq-eqb key (keyLength c) k, eq-eqb iv (ivLength c) v, eq-eqb size (areaLength c) s)
+
+-- ---- 1, 4 and 5
+
+module _ (code position size : ℕ) where
+  pub ready-unknown : byCode code ≡ none → ready code position size ≡ refused 1
+  unfolding ready
+  ready-unknown e = rw e
+
+  module _ (c : Cipher) (e : byCode code ≡ some c) where
+    pub ready-area : (size ≡ areaLength c → ⊥) → ready code position size ≡ refused 4
+    unfolding ready
+    ready-area s = rw (e, ne-eqb size (areaLength c) s)
+
+    pub ready-position : size ≡ areaLength c → limit < position → ready code position size ≡ refused 5
+    unfolding ready
+    ready-position s l = rw (e, eq-eqb size (areaLength c) s, lt-leb position limit l)
+
+    pub ready-accepted : size ≡ areaLength c → position ≤ limit → ready code position size ≡ accepted c
+    unfolding ready
+    ready-accepted s l = rw (e, eq-eqb size (areaLength c) s, le-leb position limit l)
+
+-- ---- spent
+
+module _ (h : Head) where
+  pub spent-unknown : byCode (h .code) ≡ none → spent h ≡ refused 1
+  unfolding spent
+  spent-unknown e = rw e
+
+  module _ (c : Cipher) (e : byCode (h .code) ≡ some c) where
+    pub spent-over : limit < h .position → spent h ≡ refused 5
+    unfolding spent
+    spent-over l = rw (e, lt-leb (h .position) limit l)
+
+    pub spent-accepted : h .position ≤ limit → spent h ≡ accepted (record { head = h; count = h .position })
+    unfolding spent
+    spent-accepted l = rw (e, le-leb (h .position) limit l)

@@ -1,0 +1,69 @@
+-- `Head::load` meets its contract: area and head are filled where every condition holds, and only there. Assumes nothing.
+use mathlib.Core.Path.{_≡_, sym, ap, _∙_}
+use Prim.Native.Nat.{ℕ}
+use native.Mathlib.Omega.{arith}
+use borrow.Author.Needs.{needs}
+use borrow.Author.Tests.{not-true, not-false}
+use mir.Syntax.{w32}
+use mir.Val.{Fits}
+use lib.ListN.{length, getD}
+use Rattle.cipher.proofs.Sizes.{sizes}
+use Rattle.engine.specs.Head.{headAt}
+use Rattle.engine.proofs.Calls.{load-refused, load-none, load-done, key-words, iv-words}
+use Rattle.engine.proofs.Head.load.Statement.{statement}
+use Rattle.engine.proofs.Head.load.Tie as tie
+
+returns : tie.Need-returns
+returns c = rw (c .not-loaded .ensures) (load-refused _ _ _ _ (c .before .before .open-check .ensures .refused-is (c .before .if1 .taken)))
+
+of-string-requires : tie.Need-of-string-requires
+of-string-requires c κs =
+    let opening = c .before .open-check .ensures in
+    let l = opening .within (c .if1 .left) in
+    (opening .string-is (c .if1 .left), omega arith)
+
+returns-2 : tie.Need-returns-2
+returns-2 c =
+    let opened = c .before .before .before in
+    rw (c .not-loaded2 .ensures)
+    (load-none _ _ _ _ _ _ (opened .before .open-check .ensures .passed-is (opened .if1 .left))
+    (sym (c .before .before .of-string .ensures .filled-is) ∙ not-true _ (c .before .if2 .taken)))
+
+read-words-requires : tie.Need-read-words-requires
+read-words-requires c κs =
+    let opened = c .before .before .before .before in
+    let opening = opened .before .open-check .ensures in
+    let a = opening .area-is (opened .if1 .left) in
+    let s = opening .string-is (opened .if1 .left) in
+    let z = sizes (opened .before .open-check .result .cipher) in
+    (omega arith, omega arith)
+
+-- the words that were found are sixteen words
+sixteen : (c : tie.After-of-string) → length (c .of-string .result .words) ≡ 16
+sixteen c = search needs
+
+words-fit : (c : tie.After-of-string) (k : ℕ) → Fits w32 (getD (c .of-string .result .words) k 0)
+words-fit c k = search needs
+
+returns-3 : tie.Need-returns-3
+returns-3 c =
+    let coded = c .before .before .before in
+    let ived = coded .before in
+    let keyed = ived .before in
+    let filled = keyed .before .before .before .before .before .before in
+    let opened = filled .before .before in
+    let opening = opened .before .open-check in
+    let found = filled .before .of-string in
+    let w = found .result .words in
+    load-done _ _ _ _ _ _ (opening .ensures .passed-is (opened .if1 .left)) _ _ _ _
+    (sym (found .ensures .filled-is) ∙ not-false _ (filled .if2 .left))
+    (c .at .ensures ∙ ap (λ (x : ℕ). headAt x (opening .result .position)) (coded .code-of .ensures))
+    (keyed .before .before .before .read-words .ensures)
+    (key-words _ w _ (λ k. words-fit (filled .before) k .fits) (sixteen (filled .before)) (found .ensures .words-are) _ _ (keyed .key-bytes .ensures .0) (c .before .before .eight-words .ensures))
+    (iv-words _ w _ (λ k. words-fit (filled .before) k .fits) (sixteen (filled .before)) (found .ensures .words-are) _ _ (ived .iv-bytes .ensures .0) (c .before .eight-words2 .ensures))
+
+pub load-spec : {M : Type 1} → statement M
+load-spec =
+    let a₁ = tie.spec (λ c κs. search needs) (λ c κs. search needs) returns of-string-requires (λ c κs. search needs) in
+    let a₂ = a₁ returns-2 read-words-requires (λ c κs. search needs) (λ c κs. search needs) (λ c κs. search needs) in
+    tie.close (a₂ (λ c κs. search needs) (λ c κs. search needs) (λ c κs. search needs) (λ c. search needs) returns-3)

@@ -1,0 +1,37 @@
+-- `Head::write` meets its contract: the checkpoint is put where every condition holds, and only there. Assumes nothing.
+use native.Mathlib.Omega.{arith}
+use borrow.Author.Needs.{needs}
+use Rattle.engine.proofs.Checks.{is-refused, is-accepted}
+use Rattle.engine.proofs.Calls.{write-refused, write-small, write-done}
+use Rattle.engine.proofs.Head.write.Statement.{statement}
+use Rattle.engine.proofs.Head.write.Tie as tie
+
+returns : tie.Need-returns
+returns c = write-refused _ _ _ _ (is-refused _ _ _ (c .before .ready .ensures .0) (c .if1 .taken))
+
+returns-2 : tie.Need-returns-2
+returns-2 c =
+    let tested = c .before .before in
+    let e = c .before .room .ensures .0 in
+    write-small _ _ _ _ (is-accepted _ _ _ (tested .before .ready .ensures .0) (tested .if1 .left)) (omega arith)
+
+write-checkpoint-requires : tie.Need-write-checkpoint-requires
+write-checkpoint-requires c κs =
+    let tested = c .before .before .before in
+    let checked = tested .before .ready .ensures .1 in
+    let l = checked .within (tested .if1 .left) in
+    let e = c .before .before .room .ensures .0 in
+    (checked .area-is (tested .if1 .left), omega arith, omega arith)
+
+returns-3 : tie.Need-returns-3
+returns-3 c =
+    let written = c .before .before .write-checkpoint .ensures in
+    let roomy = c .before .before .before .before in
+    let tested = roomy .before .before in
+    let e = roomy .before .room .ensures .0 in
+    write-done _ _ _ _ (is-accepted _ _ _ (tested .before .ready .ensures .0) (tested .if1 .left)) _ _ (omega arith) (written .0) (written .1)
+
+pub write-spec : {M : Type 1} → statement M
+write-spec =
+    let a₁ = tie.spec (λ c κs. search needs) returns (λ c κs. search needs) returns-2 write-checkpoint-requires in
+    tie.close (a₁ (λ c. search needs) returns-3)

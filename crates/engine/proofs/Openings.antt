@@ -1,0 +1,106 @@
+-- The conditions of load up to 11, line by line. Assumes nothing.
+use mathlib.Core.Path.{_≡_, refl, sym, ap, _∙_}
+use mathlib.Core.List.{List, [], _∷_}
+use mathlib.Core.Option.{none, some}
+use Prim.Native.Nat.{ℕ, _-_, _*_, _≤_, _<_}
+use native.Mathlib.Omega.{arith}
+use borrow.Author.Tests.{eq-eqb, ne-eqb, le-leb, lt-leb}
+use lib.ListN.{length, getD, drop, length-drop}
+use Rattle.cipher.specs.declared.Cipher.{Cipher}
+use Rattle.cipher.specs.declared.Cipher.the-variants.{Hc128}
+use Rattle.cipher.specs.Numbers.{byCode, areaLength}
+use Rattle.varint.specs.Number.{readNumber}
+use Rattle.checkpoint.specs.Checkpoint.{mostGroups}
+use Rattle.engine.specs.declared.Opening.{Opening}
+use Rattle.engine.specs.Result.{refused, accepted}
+use Rattle.engine.specs.Head.{limit}
+use Rattle.engine.specs.Conditions.{placed, firstByte, loadCheck}
+use Rattle.engine.specs.Answers.{OpeningIs}
+
+first-byte : (string : List ℕ) → (length string ≡ 0 → ⊥) → firstByte string ≡ some (getD string 0 0)
+first-byte [] h = absurd (h refl)
+first-byte (b ∷ string) h = refl
+
+no-byte : (string : List ℕ) → length string ≡ 0 → firstByte string ≡ none
+no-byte [] h = refl
+no-byte (b ∷ string) h = absurd (omega arith)
+
+-- a refusal, whatever its number, as the code answers it
+module _ (string : List ℕ) (size : ℕ) (r : Opening) where
+  refuses : (n : ℕ) → (n ≡ 0 → ⊥) → r ≡ record { refusal = n; cipher = Hc128; position = 0; next = 0 } → loadCheck string size ≡ refused n
+      → OpeningIs string size r
+  refuses n h e x =
+      let never : r .refusal ≡ 0 → ⊥ = λ z. h (sym (ap (λ (q : Opening). q .refusal) e) ∙ z) in
+      record {
+        refused-is = λ _. x ∙ rw e;
+        passed-is = λ z. absurd (never z);
+        area-is = λ z. absurd (never z);
+        within = λ z. absurd (never z);
+        string-is = λ z. absurd (never z);
+      }
+
+  pub opens-empty : length string ≡ 0 → r ≡ record { refusal = 9; cipher = Hc128; position = 0; next = 0 } → OpeningIs string size r
+  unfolding loadCheck
+  opens-empty l e = refuses 9 (λ z. omega arith) e (rw (no-byte string l))
+
+  module _ (some-bytes : length string ≡ 0 → ⊥) where
+    pub opens-unknown : byCode (getD string 0 0) ≡ none → r ≡ record { refusal = 1; cipher = Hc128; position = 0; next = 0 }
+        → OpeningIs string size r
+    unfolding loadCheck
+    opens-unknown k e = refuses 1 (λ z. omega arith) e (rw (first-byte string some-bytes, k))
+
+    module _ (c : Cipher) (k : byCode (getD string 0 0) ≡ some c) where
+      pub opens-other-size : (size ≡ areaLength c → ⊥) → r ≡ record { refusal = 4; cipher = Hc128; position = 0; next = 0 }
+          → OpeningIs string size r
+      unfolding loadCheck
+      opens-other-size s e = refuses 4 (λ z. omega arith) e (rw (first-byte string some-bytes, k, ne-eqb size (areaLength c) s))
+
+      module _ (s : size ≡ areaLength c) where
+        pub opens-no-position : (n : ℕ) → (n ≡ 0 → ⊥) → placed (readNumber mostGroups (drop 1 string)) ≡ refused n
+            → r ≡ record { refusal = n; cipher = Hc128; position = 0; next = 0 } → OpeningIs string size r
+        unfolding loadCheck
+        opens-no-position n h p e = refuses n h e (rw (first-byte string some-bytes, k, eq-eqb size (areaLength c) s, p))
+
+        module _ (position next : ℕ)
+            (p : placed (readNumber mostGroups (drop 1 string)) ≡ accepted (record { position = position; rest = drop next string })) where
+          pub opens-past-limit : limit < position → r ≡ record { refusal = 5; cipher = Hc128; position = 0; next = 0 } → OpeningIs string size r
+          unfolding loadCheck
+          opens-past-limit l e =
+              refuses 5 (λ z. omega arith) e
+              (rw (first-byte string some-bytes, k, eq-eqb size (areaLength c) s, p, lt-leb position limit l))
+
+          module _ (l : position ≤ limit) where
+            pub opens-other-length : (n : ℕ) → n ≡ areaLength c → (length string - next ≡ 4 * n → ⊥)
+                → r ≡ record { refusal = 11; cipher = Hc128; position = 0; next = 0 } → OpeningIs string size r
+            unfolding loadCheck
+            opens-other-length n q w e =
+                refuses 11 (λ z. omega arith) e
+                (rw (
+                  first-byte string some-bytes,
+                  k,
+                  eq-eqb size (areaLength c) s,
+                  p,
+                  le-leb position limit l,
+                  ne-eqb (length (drop next string)) (4 * areaLength c) (λ z. w (sym (length-drop next string) ∙ z ∙ ap (λ (x : ℕ). 4 * x) (sym q))),
+                ))
+
+            pub opens : (n : ℕ) → n ≡ areaLength c → length string - next ≡ 4 * n → next ≤ length string
+                → r ≡ record { refusal = 0; cipher = c; position = position; next = next } → OpeningIs string size r
+            unfolding loadCheck
+            opens n q w i e =
+                let left : length (drop next string) ≡ 4 * areaLength c = length-drop next string ∙ w ∙ ap (λ (x : ℕ). 4 * x) q in
+                rw e
+                (record {
+                  refused-is = λ h. absurd (h refl);
+                  passed-is = λ z. rw (
+                    first-byte string some-bytes,
+                    k,
+                    eq-eqb size (areaLength c) s,
+                    p,
+                    le-leb position limit l,
+                    eq-eqb (length (drop next string)) (4 * areaLength c) left,
+                  );
+                  area-is = λ z. s;
+                  within = λ z. l;
+                  string-is = λ z. omega arith;
+                })

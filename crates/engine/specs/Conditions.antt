@@ -1,0 +1,124 @@
+-- Document 01, 'Calls, with their refusals in order': the conditions, as functions of code, position, the area's size and the other arguments.
+-- The engine reads them with the head's code and position, the account of demand 3 with its own.
+use mathlib.Core.List.{List, [], _∷_}
+use mathlib.Core.Option.{Option, none, some}
+use Prim.Native.Nat.{ℕ, _+_, _*_}
+use lib.Dec.{eqb, leb}
+use lib.IntN.{ℤ, pos, negsuc, _+ℤ_}
+use lib.ListN.{length, drop}
+use Rattle.word.specs.Bytes.{words}
+use Rattle.cipher.specs.declared.Cipher.{Cipher}
+use Rattle.cipher.specs.Numbers.{byCode, areaLength, keyLength, ivLength}
+use Rattle.keystream.specs.Steps.{stepsBack, stepsAt}
+use Rattle.setup.specs.SetUp as SetUp
+use Rattle.setup.specs.SetUp.{Undone, undo}
+use Rattle.varint.specs.Number.{Found, is, ended, malformed, readNumber}
+use Rattle.checkpoint.specs.Checkpoint.{mostGroups}
+use Rattle.engine.specs.Result.{Result, refused, accepted, _>>=_, _>>_, refuse_unless_, refuse_without_}
+use Rattle.engine.specs.Head.{limit}
+
+-- **Set up** 1: cipher code is neither 1 nor 2. 2: key length. 3: IV length. 4: area is not 2T words.
+unfoldable pub setUpCheck : (code keySize ivSize size : ℕ) → Result Cipher
+setUpCheck code keySize ivSize size = do
+  c ← refuse 1 without byCode code
+  refuse 2 unless eqb keySize (keyLength c)
+  refuse 3 unless eqb ivSize (ivLength c)
+  refuse 4 unless eqb size (areaLength c)
+  accepted c
+
+-- 1: head's code. 4: area. 5: position over the limit.
+unfoldable pub ready : (code position size : ℕ) → Result Cipher
+ready code position size = do
+  c ← refuse 1 without byCode code
+  refuse 4 unless eqb size (areaLength c)
+  refuse 5 unless leb position limit
+  accepted c
+
+-- **Cipher** 1, 4, 5. 6: the end would pass the limit.
+unfoldable pub cipherCheck : (code position size n : ℕ) → Result Cipher
+cipherCheck code position size n = do
+  c ← ready code position size
+  refuse 6 unless leb (position + n) limit
+  accepted c
+
+-- where a move by a signed distance ends. 7: the end would be below 0. 6: the end would pass the limit.
+abbrev pub within : ℤ → Result ℕ
+within (negsuc n) = refused 7
+within (pos n) = do
+  refuse 6 unless leb n limit
+  accepted n
+
+unfoldable pub endOf : ℕ → ℤ → Result ℕ
+endOf position distance = within (pos position +ℤ distance)
+
+-- **Move** 1, 4, 5. 7, 6.
+pub record Course : Type 0 where
+  pub cipher : Cipher
+  pub end : ℕ
+
+unfoldable pub moveCheck : (code position size : ℕ) (distance : ℤ) → Result Course
+moveCheck code position size distance = do
+  c ← ready code position size
+  end ← endOf position distance
+  accepted (record { cipher = c; end = end })
+
+-- the key and the IV that have these tables at this position: the steps undone, then set-up
+unfoldable pub undoAt : Cipher → List ℕ → ℕ → Undone
+undoAt c s position = undo c (stepsBack c s 0 (stepsAt position))
+
+pub record KeyAndIv : Type 0 where
+  pub key : List ℕ
+  pub iv : List ℕ
+
+-- 12: no key and IV have these tables at this position
+abbrev pub foundOr12 : Undone → Result KeyAndIv
+foundOr12 SetUp.none = refused 12
+foundOr12 (SetUp.found key iv) = accepted (record { key = key; iv = iv })
+
+-- **Recover** 1, 4, 5. 2, 3: buffer length is not the cipher's. 12.
+unfoldable pub recoverCheck : (code position : ℕ) (area : List ℕ) (keySize ivSize : ℕ) → Result KeyAndIv
+recoverCheck code position area keySize ivSize = do
+  c ← ready code position (length area)
+  refuse 2 unless eqb keySize (keyLength c)
+  refuse 3 unless eqb ivSize (ivLength c)
+  foundOr12 (undoAt c area position)
+
+-- the position of a checkpoint. 10: a fourth group announces another. 9: the string ends before the last group. 10: the last of two or more
+-- groups is 0.
+pub record Place : Type 0 where
+  pub position : ℕ
+  pub rest : List ℕ
+
+abbrev pub placed : Found → Result Place
+placed (is value rest) = accepted (record { position = value; rest = rest })
+placed ended = refused 9
+placed malformed = refused 10
+
+abbrev pub firstByte : List ℕ → Option ℕ
+firstByte [] = none
+firstByte (b ∷ string) = some b
+
+-- what a checkpoint holds, with the key and the IV of its tables
+pub record Loaded : Type 0 where
+  pub cipher : Cipher
+  pub key : List ℕ
+  pub iv : List ℕ
+  pub position : ℕ
+  pub area : List ℕ
+
+-- the last condition of load, 12, and what the checkpoint holds
+abbrev pub loadFound : Cipher → ℕ → List ℕ → Result Loaded
+loadFound c position rest = do
+  pair ← foundOr12 (undoAt c (words rest) position)
+  accepted (record { cipher = c; key = pair .key; iv = pair .iv; position = position; area = words rest })
+
+-- **Load** 9: no bytes. 1: first byte. 4: area. 10, 9, 10: the position. 5: over the limit. 11: the bytes left are not 4 times 2T. 12.
+unfoldable pub loadCheck : (string : List ℕ) (size : ℕ) → Result Loaded
+loadCheck string size = do
+  code ← refuse 9 without firstByte string
+  c ← refuse 1 without byCode code
+  refuse 4 unless eqb size (areaLength c)
+  place ← placed (readNumber mostGroups (drop 1 string))
+  refuse 5 unless leb (place .position) limit
+  refuse 11 unless eqb (length (place .rest)) (4 * areaLength c)
+  loadFound c (place .position) (place .rest)

@@ -1,0 +1,5 @@
+pub mod Result
+pub mod Head
+pub mod Conditions
+pub mod Calls
+pub mod Answers

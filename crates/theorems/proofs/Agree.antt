@@ -1,0 +1,171 @@
+-- Engine and account agree after every list of calls, and the area's size never changes. Assumes nothing.
+use mathlib.Core.Path.{_≡_, refl, sym, ap, _∙_, subst₂}
+use mathlib.Core.List.{List, [], _∷_}
+use Prim.Native.Nat.{ℕ, _≤_}
+use native.Mathlib.Omega.{arith}
+use lib.Dec.{leb}
+use lib.ListN.{length}
+use Rattle.laws.proofs.Iterate.{forward-none}
+use Rattle.word.specs.Bytes.{AllBytes}
+use Rattle.cipher.specs.declared.Cipher.{Cipher}
+use Rattle.cipher.specs.Numbers.{byCode, codeOf, areaLength}
+use Rattle.tables.specs.Step.{step}
+use Rattle.schedule.specs.Key.{Pair}
+use Rattle.keystream.specs.Steps.{moved}
+use Rattle.setup.specs.SetUp as SetUp
+use Rattle.engine.specs.declared.Head.{Head}
+use Rattle.engine.specs.Result.{Result, refused, accepted, left, _>>=_, refuse_without_}
+use Rattle.engine.specs.Head.{limit, headAt}
+use Rattle.checkpoint.specs.Checkpoint.{room}
+use Rattle.engine.specs.Conditions.{setUpCheck, ready, cipherCheck, moveCheck, recoverCheck, Loaded, loadCheck}
+use Rattle.engine.specs.Calls.{Engine, Ciphered, Written, Recovered, Opened, Counted, setUp, setUpCall, cipher, cipherCall, move, moveCall, write, writeCall, recover, recoverCall, load, loadCall, spent, spentCall}
+use Rattle.theorems.specs.Account.{Call, call-set-up, call-cipher, call-move, call-write, call-recover, call-load, call-spent, Given, AllGiven, called, run, Four, IsFour, Account, empty, holds, accountCode, accountPosition, at, unless-refused, feed, account, engineAfter, accountAfter, tablesOf}
+use Rattle.theorems.proofs.Results.{left-same, accepted-one, after-first, after-line, after-unless}
+use Rattle.theorems.proofs.Tables.{four-sized, four-moved}
+use Rattle.theorems.proofs.Conditions.{same-code, no-code-0, Ready, set-up-accepted, cipher-accepted, move-accepted}
+use Rattle.theorems.proofs.Checkpoints.{fourOf, load-shows}
+
+-- the head of an account
+abbrev pub headOf : Account → Head
+headOf a = headAt (accountCode a) (accountPosition a)
+
+-- an account's tables; an empty account asks nothing of the area
+abbrev pub TablesAre : Account → List ℕ → Type 0
+TablesAre empty s = Unit {0}
+TablesAre (holds f) s = IsFour f × (s ≡ tablesOf f)
+
+pub record Agrees (size : ℕ) (a : Account) (e : Engine) : Type 0 where
+  pub head-is : e .head ≡ headOf a
+  pub tables-are : TablesAre a (e .area)
+  pub sized : length (e .area) ≡ size
+
+-- what holds before a call, and after it where it is accepted, holds after it
+module _ {A B : Type 0} (P : Account → Engine → Type 0) (a : Account) (f : A → Account) (old : B) (new : A → B) (engine : B → Engine) where
+  by-answer : (r : Result A) → P a (engine old) → ((x : A) → r ≡ accepted x → P (f x) (engine (new x)))
+      → P (unless-refused a r f) (engine (left old (r >>= λ x. accepted (new x)) .value))
+  by-answer (refused n) before after = before
+  by-answer (accepted x) before after = after x refl
+
+-- ── the heads that write, recover and spent return ──
+
+write-head : (h : Head) (area lent : List ℕ) → writeCall h area lent .value .head ≡ h
+unfolding writeCall write
+write-head h area lent =
+    left-same (λ (w : Written). w .head) _ (write h area lent) λ w e.
+    after-line (ready (h .code) (h .position) (length area)) _ e λ c e₁ r₁.
+    after-unless 8 (leb (room c) (length lent)) _ r₁ λ e₂ r₂.
+    ap (λ (x : Written). x .head) (sym (accepted-one refl r₂))
+
+recover-head : (h : Head) (area key iv : List ℕ) → recoverCall h area key iv .value .head ≡ h
+unfolding recoverCall recover
+recover-head h area key iv =
+    left-same (λ (r : Recovered). r .head) _ (recover h area key iv) λ r e.
+    after-line (recoverCheck (h .code) (h .position) area (length key) (length iv)) _ e λ pair e₁ r₁.
+    ap (λ (x : Recovered). x .head) (sym (accepted-one refl r₁))
+
+spent-head : (h : Head) → spentCall h .value .head ≡ h
+unfolding spentCall spent
+spent-head h =
+    left-same (λ (n : Counted). n .head) _ (spent h) λ n e.
+    after-unless 5 (leb (h .position) limit) _ (after-first (refuse 1 without byCode (h .code)) _ e) λ e₁ r₁.
+    ap (λ (x : Counted). x .head) (sym (accepted-one refl r₁))
+
+-- ── one call, from the account's head ──
+
+abbrev engineAt : Account → List ℕ → Engine
+engineAt a s = record { head = headOf a; area = s }
+
+same : (a : Account) (s : List ℕ) → TablesAre a s → Agrees (length s) a (engineAt a s)
+same a s t = record { head-is = refl; tables-are = t; sized = refl }
+
+-- an area that has become the tables of a four
+tables-agree : (f : Four) (s : List ℕ) (size : ℕ) → IsFour f → s ≡ tablesOf f → size ≡ areaLength (f .cipher)
+    → Agrees size (holds f) (engineAt (holds f) s)
+tables-agree f s size h e z = record {
+  head-is = refl;
+  tables-are = (h, e);
+  sized = four-sized f s h e ∙ sym z;
+}
+
+set-up-agrees : (code : ℕ) (key iv s : List ℕ) (c : Cipher) → AllBytes key → AllBytes iv
+    → setUpCheck code (length key) (length iv) (length s) ≡ accepted c
+    → Agrees (length s)
+    (holds (record { cipher = c; key = key; iv = iv; position = 0 }))
+    (record { head = headAt code 0; area = SetUp.setUp c key iv })
+unfolding tablesOf
+set-up-agrees code key iv s c kb vb e =
+    let r = set-up-accepted code (length key) (length iv) (length s) c e in
+    let pair : Pair c key iv = record { key-long = r .key-long; iv-long = r .iv-long; key-bytes = kb; iv-bytes = vb } in
+    rw (r .code-is)
+    (tables-agree (record { cipher = c; key = key; iv = iv; position = 0 }) _ (length s)
+    (record { pair = pair; within = omega arith })
+    (sym (forward-none (step c) _ 0))
+    (r .sized))
+
+-- an area that cipher or move brings to position q
+moved-agrees : (a : Account) (s : List ℕ) (c : Cipher) (q : ℕ) → TablesAre a s
+    → Ready (accountCode a) (accountPosition a) (length s) c → q ≤ limit
+    → Agrees (length s) (at a q) (record { head = headAt (accountCode a) q; area = moved c s (accountPosition a) q })
+moved-agrees empty s c q t r l = absurd (no-code-0 c (r .code-is))
+moved-agrees (holds f) s c q t r l =
+    let d : c ≡ f .cipher = sym (same-code (f .cipher) c (r .code-is)) in
+    let h : IsFour f = t .0 in
+    tables-agree (record { cipher = f .cipher; key = f .key; iv = f .iv; position = q }) _ (length s)
+    (record { pair = h .pair; within = l })
+    (rw (d, t .1) (four-moved f q h))
+    (r .sized ∙ ap areaLength d)
+
+load-agrees : (string s : List ℕ) (l : Loaded) → AllBytes string → loadCheck string (length s) ≡ accepted l
+    → Agrees (length s) (holds (fourOf l)) (record { head = headAt (codeOf (l .cipher)) (l .position); area = l .area })
+load-agrees string s l all e =
+    let r = load-shows string (length s) l all e in
+    tables-agree (fourOf l) (l .area) (length s) (r .checkpoint .isFour) (r .area-is) (r .sized)
+
+agree-at : (call : Call) (a : Account) (s : List ℕ) → Given call → TablesAre a s
+    → Agrees (length s) (feed (length s) a call) (called (engineAt a s) call)
+unfolding feed called setUpCall setUp cipherCall cipher moveCall move loadCall load
+agree-at (call-set-up code key iv) a s g t =
+    by-answer (Agrees (length s)) a _ _ _ (λ (e : Engine). e) (setUpCheck code (length key) (length iv) (length s)) (same a s t) λ c e.
+    set-up-agrees code key iv s c (g .0) (g .1) e
+agree-at (call-cipher bytes) a s g t =
+    let code = accountCode a in
+    let position = accountPosition a in
+    by-answer (Agrees (length s)) a _ _ _ (λ (r : Ciphered). r .engine) (cipherCheck code position (length s) (length bytes)) (same a s t) λ c e.
+    let r = cipher-accepted code position (length s) (length bytes) c e in
+    moved-agrees a s c _ t (r .0) (r .1)
+agree-at (call-move distance) a s g t =
+    let code = accountCode a in
+    let position = accountPosition a in
+    by-answer (Agrees (length s)) a _ _ _ (λ (e : Engine). e) (moveCheck code position (length s) distance) (same a s t) λ m e.
+    let r = move-accepted code position (length s) distance m e in
+    moved-agrees a s (m .cipher) (m .end) t (r .is-ready) (r .end-within)
+agree-at (call-load string) a s g t =
+    by-answer (Agrees (length s)) a _ _ _ (λ (o : Opened). o .engine) (loadCheck string (length s)) (same a s t) λ l e.
+    load-agrees string s l g e
+agree-at (call-write lent) a s g t = rw (write-head (headOf a) s lent) (same a s t)
+agree-at (call-recover key iv) a s g t = rw (recover-head (headOf a) s key iv) (same a s t)
+agree-at call-spent a s g t = rw (spent-head (headOf a)) (same a s t)
+
+agree-call : (call : Call) (size : ℕ) (a : Account) (e : Engine) → Given call → Agrees size a e
+    → Agrees size (feed size a call) (called e call)
+agree-call call size a e g h =
+    subst₂
+    (λ (n : ℕ) (x : Head). Agrees n (feed n a call) (called (record { head = x; area = e .area }) call))
+    (h .sized)
+    (sym (h .head-is))
+    (agree-at call a (e .area) g (h .tables-are))
+
+agree-run : (calls : List Call) (size : ℕ) (a : Account) (e : Engine) → AllGiven calls → Agrees size a e
+    → Agrees size (account size calls a) (run calls e)
+unfolding account run
+agree-run [] size a e g h = h
+agree-run (call ∷ calls) size a e g h =
+    agree-run calls size (feed size a call) (called e call) (g .1) (agree-call call size a e (g .0) h)
+
+pub agree : (calls : List Call) → AllGiven calls → (area : List ℕ)
+    → Agrees (length area) (accountAfter calls area) (engineAfter calls area)
+agree calls g area = agree-run calls (length area) empty _ g (record { head-is = refl; tables-are = tt; sized = refl })
+
+pub agree-four : (calls : List Call) → AllGiven calls → (area : List ℕ) (f : Four) → accountAfter calls area ≡ holds f
+    → Agrees (length area) (holds f) (engineAfter calls area)
+agree-four calls g area f e = rw e at (agree calls g area)

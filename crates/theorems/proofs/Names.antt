@@ -1,0 +1,42 @@
+-- The eight words of a key or an IV determine its bytes, so no two fours share a name. Assumes nothing.
+use mathlib.Core.Path.{_≡_, refl, sym, ap, _∙_}
+use mathlib.Core.List.{List}
+use Prim.Native.Nat.{ℕ, _*_}
+use lib.ListN.{length, take}
+use lib.Seq.{take-at}
+use Rattle.word.specs.Bytes.{bytes, words, AllBytes}
+use Rattle.word.proofs.Bytes.{bytes-words, length-words}
+use Rattle.cipher.specs.declared.Cipher.{Cipher}
+use Rattle.cipher.specs.declared.Cipher.the-variants.{Hc128, Hc256}
+use Rattle.cipher.specs.Numbers.{keyLength, ivLength}
+use Rattle.engine.specs.Calls.{Opened, eightWords}
+use Rattle.theorems.specs.Account.{Four, IsFour}
+use Rattle.theorems.specs.Demand3.{Names}
+use Rattle.theorems.proofs.Conditions.{same-code}
+
+eight-words-one : (n : ℕ) (k m : List ℕ) → AllBytes k → AllBytes m → length k ≡ 4 * n → length m ≡ 4 * n
+    → eightWords k ≡ eightWords m → k ≡ m
+eight-words-one n k m bk bm lk lm e =
+    let w : words k ≡ words m =
+    sym (take-at (words k) _ n (length-words n k lk)) ∙ ap (take n) e ∙ take-at (words m) _ n (length-words n m lm) in
+    sym (bytes-words n k lk bk) ∙ ap bytes w ∙ bytes-words n m lm bm
+
+-- the words of a key and of an IV
+words-long : (c : Cipher) → (n : ℕ) × (keyLength c ≡ 4 * n) × (ivLength c ≡ 4 * n)
+words-long Hc128 = (4, refl, refl)
+words-long Hc256 = (8, refl, refl)
+
+pub name-of-one : (o : Opened) (f g : Four) → IsFour f → IsFour g → Names o f → Names o g → f ≡ g
+name-of-one o f g hf hg nf ng =
+    let c : f .cipher ≡ g .cipher = same-code (f .cipher) (g .cipher) (sym (nf .code) ∙ ng .code) in
+    let (n, kn, vn) = words-long (g .cipher) in
+    let a = hf .pair in
+    let b = hg .pair in
+    let k =
+    eight-words-one n (f .key) (g .key) (a .key-bytes) (b .key-bytes) (a .key-long ∙ ap keyLength c ∙ kn) (b .key-long ∙ kn)
+    (sym (nf .key) ∙ ng .key) in
+    let v =
+    eight-words-one n (f .iv) (g .iv) (a .iv-bytes) (b .iv-bytes) (a .iv-long ∙ ap ivLength c ∙ vn) (b .iv-long ∙ vn)
+    (sym (nf .iv) ∙ ng .iv) in
+    let p = sym (nf .position) ∙ ng .position in
+    λ i. record { cipher = c i; key = k i; iv = v i; position = p i }

@@ -1,0 +1,50 @@
+-- What an accepted `do` block shows of each of its lines. Assumes nothing.
+use mathlib.Core.Path.{_≡_, refl}
+use mathlib.Core.Bool.{Bool, true, false}
+use mathlib.Core.Option.{Option, none, some}
+use mathlib.Core.Logic.{_↔_}
+use Prim.Native.Nat.{ℕ}
+use native.Mathlib.Omega.{arith}
+use Rattle.engine.specs.Result.{Result, refused, accepted, left, _>>=_, _>>_, refuse_unless_, refuse_without_}
+
+module _ {A : Type 0} where
+  pub not-both : {n : ℕ} {a : A} {r : Result A} → r ≡ refused n → r ≡ accepted a → ⊥
+  not-both p q = let z : _≡_ {A = ℕ} 0 1 = cc in omega arith
+
+  pub accepted-one : {a b : A} {r : Result A} → r ≡ accepted a → r ≡ accepted b → a ≡ b
+  accepted-one p q = cc
+
+  -- what an accepted call and its refusal both leave as it was
+  pub left-same : {B : Type 0} (part : A → B) (old : A) (r : Result A)
+      → ((new : A) → r ≡ accepted new → part new ≡ part old) → part (left old r .value) ≡ part old
+  left-same part old (refused n) h = refl
+  left-same part old (accepted new) h = h new refl
+
+module _ {A B : Type 0} where
+  -- a block whose last line accepts is refused exactly where the lines before it are
+  pub refused-iff : (f : A → B) (r : Result A) (n : ℕ) → (r >>= λ a. accepted (f a)) ≡ refused n ↔ r ≡ refused n
+  refused-iff f (refused m) n = ((λ e. cc), (λ e. cc))
+  refused-iff f (accepted a) n = ((λ e. absurd (not-both e refl)), (λ e. absurd (not-both e refl)))
+
+  -- where a block is accepted, so are the lines after its first
+  pub after-first : (r : Result A) (q : Result B) {b : B} → (r >> q) ≡ accepted b → q ≡ accepted b
+  after-first (refused n) q e = absurd (not-both refl e)
+  after-first (accepted a) q e = e
+
+-- where a block is accepted, so are its first line and the lines after it; C is what is to be shown from that
+module _ {A B C : Type 0} where
+  pub after-line : (r : Result A) (f : A → Result B) {b : B} → (r >>= f) ≡ accepted b
+      → ((a : A) → r ≡ accepted a → f a ≡ accepted b → C) → C
+  after-line (refused n) f e k = absurd (not-both refl e)
+  after-line (accepted a) f e k = k a refl e
+
+  pub after-without : (n : ℕ) (o : Option A) (f : A → Result B) {b : B} → ((refuse n without o) >>= f) ≡ accepted b
+      → ((a : A) → o ≡ some a → f a ≡ accepted b → C) → C
+  after-without n none f e k = absurd (not-both refl e)
+  after-without n (some a) f e k = k a refl e
+
+module _ {B C : Type 0} where
+  pub after-unless : (n : ℕ) (t : Bool) (r : Result B) {b : B} → ((refuse n unless t) >> r) ≡ accepted b
+      → (t ≡ true → r ≡ accepted b → C) → C
+  after-unless n true r e k = k refl e
+  after-unless n false r e k = absurd (not-both refl e)

@@ -1,0 +1,136 @@
+-- Document 01, 'The account kept beside the engine': lists of calls, the account that they feed, and the checkpoint of a four.
+use mathlib.Core.Path.{_≡_}
+use mathlib.Core.List.{List, [], _∷_}
+use Prim.Native.Nat.{ℕ, _+_, _≤_}
+use lib.IntN.{ℤ}
+use lib.ListN.{length}
+use Rattle.word.specs.Bytes.{AllBytes}
+use Rattle.cipher.specs.declared.Cipher.{Cipher}
+use Rattle.cipher.specs.Numbers.{codeOf}
+use Rattle.schedule.specs.Key.{Pair}
+use Rattle.keystream.specs.Steps.{steps, stepsAt}
+use Rattle.setup.specs.SetUp as SetUp
+use Rattle.engine.specs.Result.{Result, refused, accepted}
+use Rattle.engine.specs.Head.{limit, freshHead}
+use Rattle.engine.specs.Conditions.{setUpCheck, cipherCheck, moveCheck, loadCheck}
+use Rattle.engine.specs.Calls.{Engine, setUpCall, cipherCall, moveCall, writeCall, recoverCall, loadCall, spentCall}
+use Rattle.checkpoint.specs.Checkpoint.{layout}
+
+-- ── lists of calls ──
+
+-- a call with its arguments other than head and area
+pub data Call : Type 0 where
+  call-set-up : (code : ℕ) (key iv : List ℕ) → Call
+  call-cipher : (bytes : List ℕ) → Call
+  call-move : (distance : ℤ) → Call
+  call-write : (lent : List ℕ) → Call
+  call-recover : (key iv : List ℕ) → Call
+  call-load : (string : List ℕ) → Call
+  call-spent : Call
+
+-- key, IV and string are bytes; demand 3 holds whatever the other lent bytes and numbers are, so nothing is asked of them
+abbrev pub Given : Call → Type 0
+Given (call-set-up code key iv) = AllBytes key × AllBytes iv
+Given (call-load string) = AllBytes string
+Given (call-cipher bytes) = Unit {0}
+Given (call-move distance) = Unit {0}
+Given (call-write lent) = Unit {0}
+Given (call-recover key iv) = Unit {0}
+Given call-spent = Unit {0}
+
+abbrev pub AllGiven : List Call → Type 0
+AllGiven [] = Unit {0}
+AllGiven (call ∷ calls) = Given call × AllGiven calls
+
+-- 'each call gets the head, and the area if it takes one, as the last one returned or left them'
+unfoldable pub called : Engine → Call → Engine
+called e (call-set-up code key iv) = setUpCall (e .head) code key iv (e .area) .value
+called e (call-cipher bytes) = cipherCall (e .head) (e .area) bytes .value .engine
+called e (call-move distance) = moveCall (e .head) (e .area) distance .value
+called e (call-write lent) = record { head = writeCall (e .head) (e .area) lent .value .head; area = e .area }
+called e (call-recover key iv) = record { head = recoverCall (e .head) (e .area) key iv .value .head; area = e .area }
+called e (call-load string) = loadCall (e .head) string (e .area) .value .engine
+called e call-spent = record { head = spentCall (e .head) .value .head; area = e .area }
+
+unfoldable pub run : List Call → Engine → Engine
+run [] e = e
+run (call ∷ calls) e = run calls (called e call)
+
+-- ── the account ──
+
+-- document 01's 'four': cipher, key, IV and position
+pub record Four : Type 0 where
+  pub cipher : Cipher
+  pub key : List ℕ
+  pub iv : List ℕ
+  pub position : ℕ
+
+-- key and IV of that cipher's lengths, and a position from 0 to the limit
+pub record IsFour (f : Four) : Type 0 where
+  pub pair : Pair (f .cipher) (f .key) (f .iv)
+  pub within : f .position ≤ limit
+
+-- 'it is empty or a four'
+pub data Account : Type 0 where
+  empty : Account
+  holds : Four → Account
+
+-- 'the account's code and position for the head's, both 0 while it is empty'
+abbrev pub accountCode : Account → ℕ
+accountCode empty = 0
+accountCode (holds f) = codeOf (f .cipher)
+
+abbrev pub accountPosition : Account → ℕ
+accountPosition empty = 0
+accountPosition (holds f) = f .position
+
+abbrev pub at : Account → ℕ → Account
+at empty p = empty
+at (holds f) p = holds (record { cipher = f .cipher; key = f .key; iv = f .iv; position = p })
+
+-- 'a call that they refuse leaves the account'
+abbrev pub unless-refused : {A : Type 0} → Account → Result A → (A → Account) → Account
+unless-refused a (refused n) f = a
+unless-refused a (accepted x) f = f x
+
+-- the account after one call, from the call's arguments and the area's size, and nothing else
+unfoldable pub feed : ℕ → Account → Call → Account
+feed size a (call-set-up code key iv) =
+    unless-refused a (setUpCheck code (length key) (length iv) size)
+    (λ c. holds (record { cipher = c; key = key; iv = iv; position = 0 }))
+feed size a (call-cipher bytes) =
+    unless-refused a (cipherCheck (accountCode a) (accountPosition a) size (length bytes))
+    (λ c. at a (accountPosition a + length bytes))
+feed size a (call-move distance) =
+    unless-refused a (moveCheck (accountCode a) (accountPosition a) size distance) (λ m. at a (m .end))
+feed size a (call-load string) =
+    unless-refused a (loadCheck string size)
+    (λ l. holds (record { cipher = l .cipher; key = l .key; iv = l .iv; position = l .position }))
+feed size a (call-write lent) = a
+feed size a (call-recover key iv) = a
+feed size a call-spent = a
+
+unfoldable pub account : ℕ → List Call → Account → Account
+account size [] a = a
+account size (call ∷ calls) a = account size calls (feed size a call)
+
+-- 'a list begins with a fresh head, an empty account and an area of any size and content'
+abbrev pub engineAfter : List Call → List ℕ → Engine
+engineAfter calls area = run calls (record { head = freshHead; area = area })
+
+abbrev pub accountAfter : List Call → List ℕ → Account
+accountAfter calls area = account (length area) calls empty
+
+-- ── checkpoints ──
+
+-- 'the tables that set-up with its key and IV, then the steps of that position, give'
+unfoldable pub tablesOf : Four → List ℕ
+tablesOf f = steps (f .cipher) (SetUp.setUp (f .cipher) (f .key) (f .iv)) 0 (stepsAt (f .position))
+
+unfoldable pub checkpointOf : Four → List ℕ
+checkpointOf f = layout (f .cipher) (f .position) (tablesOf f)
+
+-- the string is the checkpoint of the four
+pub record Checkpoint (string : List ℕ) (f : Four) : Type 0 where
+  pub isFour : IsFour f
+  pub isString : string ≡ checkpointOf f

@@ -1,0 +1,35 @@
+-- Demand 2, said of the calls: after any list of calls ciphering is with the keystream of the account's key and IV, recover gives that key and
+-- IV, and a move and the move back restore the tables.
+use mathlib.Core.Path.{_≡_}
+use mathlib.Core.List.{List}
+use Prim.Native.Nat.{ℕ, _+_, _<_}
+use lib.IntN.{ℤ, negℤ}
+use lib.ListN.{length, getD}
+use Rattle.word.specs.Word.{_⊕_}
+use Rattle.word.specs.Bytes.{AllWords}
+use Rattle.cipher.specs.Numbers.{keyLength, ivLength}
+use Rattle.keystream.specs.Keystream.{keystream}
+use Rattle.setup.specs.SetUp as SetUp
+use Rattle.engine.specs.declared.Head.{Head}
+use Rattle.engine.specs.Result.{accepted}
+use Rattle.engine.specs.Calls.{Engine, Ciphered, cipher, move, recover}
+use Rattle.theorems.specs.Account.{Call, AllGiven, Four, holds, engineAfter, accountAfter}
+
+pub record Demand2 : Type 0 where
+  -- The byte enciphered at a position is the plain byte with that keystream byte of the account's cipher, key and IV.
+  pub enciphered :
+      (calls : List Call) → AllGiven calls → (area bytes : List ℕ) (f : Four) → accountAfter calls area ≡ holds f
+      → (r : Ciphered) → cipher (engineAfter calls area .head) (engineAfter calls area .area) bytes ≡ accepted r
+      → (i : ℕ) → i < length bytes
+      → getD (r .bytes) i 0 ≡ getD bytes i 0 ⊕ keystream (f .cipher) (SetUp.setUp (f .cipher) (f .key) (f .iv)) (f .position + i)
+  -- Recover gives the account's key and IV.
+  pub recovered :
+      (calls : List Call) → AllGiven calls → (area key iv : List ℕ) (f : Four) → accountAfter calls area ≡ holds f
+      → length key ≡ keyLength (f .cipher) → length iv ≡ ivLength (f .cipher)
+      → recover (engineAfter calls area .head) (engineAfter calls area .area) key iv
+      ≡ accepted (record { head = engineAfter calls area .head; key = f .key; iv = f .iv })
+  -- A move by d and back by -d, where both are accepted, restores head and tables.
+  pub moved-back :
+      (h : Head) (area : List ℕ) (d : ℤ) (there back : Engine) → AllWords area
+      → move h area d ≡ accepted there → move (there .head) (there .area) (negℤ d) ≡ accepted back
+      → back ≡ record { head = h; area = area }
