@@ -1,7 +1,8 @@
 -- The length of a checkpoint, that it fits in the lent bytes, and its parts stored one after another. Assumes nothing.
-use mathlib.Core.Path.{_≡_, sym, ap, _∙_}
+use mathlib.Core.Path.{_≡_, sym, _∙_}
 use mathlib.Core.List.{List, _++_}
 use Prim.Native.Nat.{ℕ, _+_, _*_, _^_, _<_, _≤_}
+use native.Mathlib.Nat.{zero-add}
 use native.Mathlib.Omega.{arith}
 use lib.ListN.{length, set, drop, length-append}
 use lib.Seq.{sets, sets-eq}
@@ -31,7 +32,4 @@ module _ (c : Cipher) (p : ℕ) (s : List ℕ) where
       ≡ layout c p s ++ drop (length (layout c p s)) lent
   unfolding layout
   layout-stored lent h =
-      let z : 0 + length (layout c p s) ≡ length (layout c p s) = omega arith in
-      sym (sets-append (set lent 0 (codeOf c)) 1 (number p) (bytes s))
-      ∙ sets-eq (layout c p s) lent 0 (omega arith)
-      ∙ ap (λ (n : ℕ). layout c p s ++ drop n lent) z
+      sym (sets-append (set lent 0 (codeOf c)) 1 (number p) (bytes s)) ∙ rw zero-add at (sets-eq (layout c p s) lent 0 (omega arith))

@@ -27,9 +27,9 @@ module _ (code key iv size : ℕ) where
     unfolding setUpCheck
     set-up-iv k v = rw (e, eq-eqb key (keyLength c) k, ne-eqb iv (ivLength c) v)
 
-    pub set-up-area : key ≡ keyLength c → iv ≡ ivLength c → (size ≡ areaLength c → ⊥) → setUpCheck code key iv size ≡ refused 4
+    pub set-up-other-size : key ≡ keyLength c → iv ≡ ivLength c → (size ≡ areaLength c → ⊥) → setUpCheck code key iv size ≡ refused 4
     unfolding setUpCheck
-    set-up-area k v s = rw (e, eq-eqb key (keyLength c) k, eq-eqb iv (ivLength c) v, ne-eqb size (areaLength c) s)
+    set-up-other-size k v s = rw (e, eq-eqb key (keyLength c) k, eq-eqb iv (ivLength c) v, ne-eqb size (areaLength c) s)
 
     pub set-up-accepted : key ≡ keyLength c → iv ≡ ivLength c → size ≡ areaLength c → setUpCheck code key iv size ≡ accepted c
     unfolding setUpCheck
@@ -43,9 +43,9 @@ module _ (code position size : ℕ) where
   ready-unknown e = rw e
 
   module _ (c : Cipher) (e : byCode code ≡ some c) where
-    pub ready-area : (size ≡ areaLength c → ⊥) → ready code position size ≡ refused 4
+    pub ready-other-size : (size ≡ areaLength c → ⊥) → ready code position size ≡ refused 4
     unfolding ready
-    ready-area s = rw (e, ne-eqb size (areaLength c) s)
+    ready-other-size s = rw (e, ne-eqb size (areaLength c) s)
 
     pub ready-position : size ≡ areaLength c → limit < position → ready code position size ≡ refused 5
     unfolding ready

@@ -16,6 +16,7 @@ use cipher::Cipher;
 use cipher::Known;
 use varint::Read;
 
+#[repr(C)]
 pub struct Head {
     pub code: u8,
     pub position: u64,

@@ -1,5 +1,5 @@
 -- Whole set-up, from key and IV to the area, and its undoing, from an area to key and IV or none.
-use mathlib.Core.Bool.{Bool, true, false, cond}
+use mathlib.Core.Bool.{cond}
 use mathlib.Core.List.{List}
 use Prim.Native.Nat.{ℕ}
 use Rattle.cipher.specs.declared.Cipher.{Cipher}
@@ -24,16 +24,3 @@ unfilled c s = cond (isFilled c s) (found (keyOf c (origin c s)) (ivOf c (origin
 -- the last pass undone, then the expansion
 unfoldable pub undo : Cipher → List ℕ → Undone
 undo c s = unfilled c (undoLastPass c s)
-
--- a found key or IV, or what a buffer held before
-abbrev pub isFound : Undone → Bool
-isFound none = false
-isFound (found key iv) = true
-
-abbrev pub keyOr : List ℕ → Undone → List ℕ
-keyOr b none = b
-keyOr b (found key iv) = key
-
-abbrev pub ivOr : List ℕ → Undone → List ℕ
-ivOr b none = b
-ivOr b (found key iv) = iv

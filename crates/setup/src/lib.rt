@@ -26,17 +26,3 @@ pub fn undo_set_up(cipher: Cipher, area: &mut [u32]) -> Found
     last_pass::undo_last_pass(cipher, area);
     schedule::origin(cipher, area)
 }
-
-// The key and the IV of the area into the two buffers, and whether it has any; the area is used up as scratch.
-pub fn recover(cipher: Cipher, area: &mut [u32], key: &mut [u8], iv: &mut [u8]) -> bool
-    requires { ⌜ (length (now area) ≡ areaLength cipher) × (length (now key) ≡ keyLength cipher) × (length (now iv) ≡ ivLength cipher) ⌝ }
-    ensures { λ r. ⌜ (now (area .exit) ≡ undoLastPass cipher (now (area .entry))) × (r ≡ SetUp.isFound (SetUp.undo cipher (now (area .entry)))) × (now (key .exit) ≡ SetUp.keyOr (now (key .entry)) (SetUp.undo cipher (now (area .entry)))) × (now (iv .exit) ≡ SetUp.ivOr (now (iv .entry)) (SetUp.undo cipher (now (area .entry)))) ⌝ }
-{
-    let found = undo_set_up(cipher, area);
-    if !found.filled {
-        return false;
-    }
-    let w = found.words;
-    schedule::store_key_and_iv(cipher, w, key, iv);
-    true
-}

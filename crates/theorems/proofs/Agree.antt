@@ -20,9 +20,9 @@ use Rattle.checkpoint.specs.Checkpoint.{room}
 use Rattle.engine.specs.Conditions.{setUpCheck, ready, cipherCheck, moveCheck, recoverCheck, Loaded, loadCheck}
 use Rattle.engine.specs.Calls.{Engine, Ciphered, Written, Recovered, Opened, Counted, setUp, setUpCall, cipher, cipherCall, move, moveCall, write, writeCall, recover, recoverCall, load, loadCall, spent, spentCall}
 use Rattle.theorems.specs.Account.{Call, call-set-up, call-cipher, call-move, call-write, call-recover, call-load, call-spent, Given, AllGiven, called, run, Four, IsFour, Account, empty, holds, accountCode, accountPosition, at, unless-refused, feed, account, engineAfter, accountAfter, tablesOf}
-use Rattle.theorems.proofs.Results.{left-same, accepted-one, after-first, after-line, after-unless}
+use Rattle.theorems.proofs.Results.{no-refusal, left-same, accepted-one, after-first, after-line, after-unless}
 use Rattle.theorems.proofs.Tables.{four-sized, four-moved}
-use Rattle.theorems.proofs.Conditions.{same-code, no-code-0, Ready, set-up-accepted, cipher-accepted, move-accepted}
+use Rattle.theorems.proofs.Conditions.{same-code, no-code-0, ReadyShows, set-up-shows, cipher-shows, move-shows}
 use Rattle.theorems.proofs.Checkpoints.{fourOf, load-shows}
 
 -- the head of an account
@@ -52,22 +52,22 @@ write-head : (h : Head) (area lent : List ℕ) → writeCall h area lent .value 
 unfolding writeCall write
 write-head h area lent =
     left-same (λ (w : Written). w .head) _ (write h area lent) λ w e.
-    after-line (ready (h .code) (h .position) (length area)) _ e λ c e₁ r₁.
-    after-unless 8 (leb (room c) (length lent)) _ r₁ λ e₂ r₂.
+    after-line (ready (h .code) (h .position) (length area)) _ e (λ _. no-refusal) λ c e₁ r₁.
+    after-unless 8 (leb (room c) (length lent)) _ r₁ no-refusal λ e₂ r₂.
     ap (λ (x : Written). x .head) (sym (accepted-one refl r₂))
 
 recover-head : (h : Head) (area key iv : List ℕ) → recoverCall h area key iv .value .head ≡ h
 unfolding recoverCall recover
 recover-head h area key iv =
     left-same (λ (r : Recovered). r .head) _ (recover h area key iv) λ r e.
-    after-line (recoverCheck (h .code) (h .position) area (length key) (length iv)) _ e λ pair e₁ r₁.
+    after-line (recoverCheck (h .code) (h .position) area (length key) (length iv)) _ e (λ _. no-refusal) λ pair e₁ r₁.
     ap (λ (x : Recovered). x .head) (sym (accepted-one refl r₁))
 
 spent-head : (h : Head) → spentCall h .value .head ≡ h
 unfolding spentCall spent
 spent-head h =
     left-same (λ (n : Counted). n .head) _ (spent h) λ n e.
-    after-unless 5 (leb (h .position) limit) _ (after-first (refuse 1 without byCode (h .code)) _ e) λ e₁ r₁.
+    after-unless 5 (leb (h .position) limit) _ (after-first (refuse 1 without byCode (h .code)) _ e) no-refusal λ e₁ r₁.
     ap (λ (x : Counted). x .head) (sym (accepted-one refl r₁))
 
 -- ── one call, from the account's head ──
@@ -94,7 +94,7 @@ set-up-agrees : (code : ℕ) (key iv s : List ℕ) (c : Cipher) → AllBytes key
     (record { head = headAt code 0; area = SetUp.setUp c key iv })
 unfolding tablesOf
 set-up-agrees code key iv s c kb vb e =
-    let r = set-up-accepted code (length key) (length iv) (length s) c e in
+    let r = set-up-shows code (length key) (length iv) (length s) c e in
     let pair : Pair c key iv = record { key-long = r .key-long; iv-long = r .iv-long; key-bytes = kb; iv-bytes = vb } in
     rw (r .code-is)
     (tables-agree (record { cipher = c; key = key; iv = iv; position = 0 }) _ (length s)
@@ -104,7 +104,7 @@ set-up-agrees code key iv s c kb vb e =
 
 -- an area that cipher or move brings to position q
 moved-agrees : (a : Account) (s : List ℕ) (c : Cipher) (q : ℕ) → TablesAre a s
-    → Ready (accountCode a) (accountPosition a) (length s) c → q ≤ limit
+    → ReadyShows (accountCode a) (accountPosition a) (length s) c → q ≤ limit
     → Agrees (length s) (at a q) (record { head = headAt (accountCode a) q; area = moved c s (accountPosition a) q })
 moved-agrees empty s c q t r l = absurd (no-code-0 c (r .code-is))
 moved-agrees (holds f) s c q t r l =
@@ -131,13 +131,13 @@ agree-at (call-cipher bytes) a s g t =
     let code = accountCode a in
     let position = accountPosition a in
     by-answer (Agrees (length s)) a _ _ _ (λ (r : Ciphered). r .engine) (cipherCheck code position (length s) (length bytes)) (same a s t) λ c e.
-    let r = cipher-accepted code position (length s) (length bytes) c e in
+    let r = cipher-shows code position (length s) (length bytes) c e in
     moved-agrees a s c _ t (r .0) (r .1)
 agree-at (call-move distance) a s g t =
     let code = accountCode a in
     let position = accountPosition a in
     by-answer (Agrees (length s)) a _ _ _ (λ (e : Engine). e) (moveCheck code position (length s) distance) (same a s t) λ m e.
-    let r = move-accepted code position (length s) distance m e in
+    let r = move-shows code position (length s) distance m e in
     moved-agrees a s (m .cipher) (m .end) t (r .is-ready) (r .end-within)
 agree-at (call-load string) a s g t =
     by-answer (Agrees (length s)) a _ _ _ (λ (o : Opened). o .engine) (loadCheck string (length s)) (same a s t) λ l e.

@@ -1,5 +1,5 @@
--- What the conditions of each call show where they accept, and that they accept where these hold. Assumes nothing.
-use mathlib.Core.Path.{_≡_, refl, ap, _∙_, subst}
+-- What the conditions of each call show where they accept or refuse with 12, and their outcome where that holds. Assumes nothing.
+use mathlib.Core.Path.{_≡_, refl, sym, ap, _∙_, subst}
 use mathlib.Core.List.{List, [], _∷_}
 use Prim.Native.Nat.{ℕ, _+_, _*_, _≤_}
 use native.Mathlib.Omega.{arith}
@@ -7,18 +7,18 @@ use borrow.Author.Tests.{le-leb, leb-true, eq-eqb, eqb-true}
 use lib.Dec.{leb, eqb}
 use lib.IntN.{ℤ, pos, negsuc, _+ℤ_}
 use lib.ListN.{length}
-use Rattle.word.specs.Bytes.{words}
 use Rattle.varint.specs.Number.{Found, is, ended, malformed, readNumber}
 use Rattle.cipher.specs.declared.Cipher.{Cipher}
 use Rattle.cipher.specs.declared.Cipher.the-variants.{Hc128, Hc256}
 use Rattle.cipher.specs.Numbers.{byCode, codeOf, areaLength, keyLength, ivLength}
 use Rattle.cipher.proofs.Codes.{code-of, by-code}
 use Rattle.setup.specs.SetUp.{Undone, none, found}
-use Rattle.engine.specs.Result.{accepted, _>>=_}
+use Rattle.engine.specs.Result.{Result, refused, accepted}
 use Rattle.engine.specs.Head.{limit}
 use Rattle.checkpoint.specs.Checkpoint.{mostGroups}
-use Rattle.engine.specs.Conditions.{setUpCheck, ready, cipherCheck, within, endOf, Course, moveCheck, undoAt, KeyAndIv, foundOr12, recoverCheck, Place, placed, Loaded, loadCheck}
-use Rattle.theorems.proofs.Results.{not-both, accepted-one, after-line, after-without, after-unless}
+use Rattle.engine.specs.Conditions.{setUpCheck, ready, cipherCheck, within, endOf, Course, moveCheck, undoAt, KeyAndIv, foundOr12, recoverCheck, Place, placed, Loaded, loadFound, loadCheck}
+use Rattle.engine.proofs.Conditions.{ready-accepted}
+use Rattle.theorems.proofs.Results.{no-refusal, accepted-one, after-line, after-without, after-unless}
 
 -- ── codes ──
 
@@ -29,22 +29,34 @@ pub no-code-0 : (c : Cipher) → 0 ≡ codeOf c → ⊥
 no-code-0 Hc128 e = omega arith
 no-code-0 Hc256 e = omega arith
 
+-- ── outcomes ──
+
+-- an outcome that is no refusal but 12
+abbrev pub Only12 : {A : Type 0} → Result A → Type 0
+Only12 x = (n : ℕ) → x ≡ refused n → n ≡ 12
+
+pub accepted-only : {A : Type 0} {a : A} → Only12 (accepted a)
+accepted-only n e = no-refusal e
+
+pub refused-only : {A : Type 0} → Only12 {A = A} (refused 12)
+refused-only n e = cc
+
 -- ── set up ──
 
-pub record SetUpAccepted (code keySize ivSize size : ℕ) (c : Cipher) : Type 0 where
+pub record SetUpShows (code keySize ivSize size : ℕ) (c : Cipher) : Type 0 where
   pub code-is : code ≡ codeOf c
   pub key-long : keySize ≡ keyLength c
   pub iv-long : ivSize ≡ ivLength c
   pub sized : size ≡ areaLength c
 
-pub set-up-accepted : (code k v size : ℕ) (c : Cipher) → setUpCheck code k v size ≡ accepted c → SetUpAccepted code k v size c
+pub set-up-shows : (code k v size : ℕ) (c : Cipher) → setUpCheck code k v size ≡ accepted c → SetUpShows code k v size c
 unfolding setUpCheck
-set-up-accepted code k v size c e =
-    after-without 1 (byCode code) _ e λ d e₁ r₁.
-    after-unless 2 (eqb k (keyLength d)) _ r₁ λ e₂ r₂.
-    after-unless 3 (eqb v (ivLength d)) _ r₂ λ e₃ r₃.
-    after-unless 4 (eqb size (areaLength d)) _ r₃ λ e₄ r₄.
-    subst (SetUpAccepted code k v size) (accepted-one refl r₄)
+set-up-shows code k v size c e =
+    after-without 1 (byCode code) _ e no-refusal λ d e₁ r₁.
+    after-unless 2 (eqb k (keyLength d)) _ r₁ no-refusal λ e₂ r₂.
+    after-unless 3 (eqb v (ivLength d)) _ r₂ no-refusal λ e₃ r₃.
+    after-unless 4 (eqb size (areaLength d)) _ r₃ no-refusal λ e₄ r₄.
+    subst (SetUpShows code k v size) (accepted-one refl r₄)
     (record {
       code-is = by-code code d e₁;
       key-long = eqb-true k (keyLength d) e₂;
@@ -52,138 +64,159 @@ set-up-accepted code k v size c e =
       sized = eqb-true size (areaLength d) e₄;
     })
 
-pub set-up-accepts : (c : Cipher) (k v size : ℕ) → k ≡ keyLength c → v ≡ ivLength c → size ≡ areaLength c
-    → setUpCheck (codeOf c) k v size ≡ accepted c
-unfolding setUpCheck
-set-up-accepts c k v size p q r =
-    rw (code-of c, eq-eqb k (keyLength c) p, eq-eqb v (ivLength c) q, eq-eqb size (areaLength c) r)
-
 -- ── code, area and position of the head ──
 
-pub record Ready (code position size : ℕ) (c : Cipher) : Type 0 where
+pub record ReadyShows (code position size : ℕ) (c : Cipher) : Type 0 where
   pub code-is : code ≡ codeOf c
   pub sized : size ≡ areaLength c
   pub within-limit : position ≤ limit
 
-pub ready-accepted : (code position size : ℕ) (c : Cipher) → ready code position size ≡ accepted c → Ready code position size c
+-- they hold where the outcome x is no refusal but 12
+ready-passed : (code position size : ℕ) {x : Result Cipher} → Only12 x → ready code position size ≡ x
+    → (c : Cipher) × ReadyShows code position size c × (accepted c ≡ x)
 unfolding ready
-ready-accepted code position size c e =
-    after-without 1 (byCode code) _ e λ d e₁ r₁.
-    after-unless 4 (eqb size (areaLength d)) _ r₁ λ e₂ r₂.
-    after-unless 5 (leb position limit) _ r₂ λ e₃ r₃.
-    subst (Ready code position size) (accepted-one refl r₃)
-    (record {
-      code-is = by-code code d e₁;
-      sized = eqb-true size (areaLength d) e₂;
-      within-limit = leb-true position limit e₃;
-    })
+ready-passed code position size only e =
+    after-without 1 (byCode code) _ e (λ q. omega (arith, only 1 q)) λ c e₁ r₁.
+    after-unless 4 (eqb size (areaLength c)) _ r₁ (λ q. omega (arith, only 4 q)) λ e₂ r₂.
+    after-unless 5 (leb position limit) _ r₂ (λ q. omega (arith, only 5 q)) λ e₃ r₃. (
+      c,
+      record {
+        code-is = by-code code c e₁;
+        sized = eqb-true size (areaLength c) e₂;
+        within-limit = leb-true position limit e₃;
+      },
+      r₃,
+    )
 
-pub ready-accepts : (c : Cipher) (position size : ℕ) → size ≡ areaLength c → position ≤ limit
-    → ready (codeOf c) position size ≡ accepted c
-unfolding ready
-ready-accepts c position size z l = rw (code-of c, eq-eqb size (areaLength c) z, le-leb position limit l)
+pub ready-shows : (code position size : ℕ) (c : Cipher) → ready code position size ≡ accepted c → ReadyShows code position size c
+ready-shows code position size c e =
+    let (d, r, q) = ready-passed code position size accepted-only e in
+    subst (ReadyShows code position size) (accepted-one refl q) r
+
+ready-not-12 : (code position size : ℕ) → ready code position size ≡ refused 12 → ⊥
+ready-not-12 code position size e = no-refusal (ready-passed code position size refused-only e .2)
 
 -- ── cipher and move ──
 
-pub cipher-accepted : (code position size n : ℕ) (c : Cipher) → cipherCheck code position size n ≡ accepted c
-    → Ready code position size c × (position + n ≤ limit)
+pub cipher-shows : (code position size n : ℕ) (c : Cipher) → cipherCheck code position size n ≡ accepted c
+    → ReadyShows code position size c × (position + n ≤ limit)
 unfolding cipherCheck
-cipher-accepted code position size n c e =
-    after-line (ready code position size) _ e λ d e₁ r₁.
-    after-unless 6 (leb (position + n) limit) _ r₁ λ e₂ r₂.
-    (ready-accepted code position size c (e₁ ∙ r₂), leb-true (position + n) limit e₂)
+cipher-shows code position size n c e =
+    after-line (ready code position size) _ e (λ _. no-refusal) λ d e₁ r₁.
+    after-unless 6 (leb (position + n) limit) _ r₁ no-refusal λ e₂ r₂.
+    (ready-shows code position size c (e₁ ∙ r₂), leb-true (position + n) limit e₂)
 
-within-accepted : (z : ℤ) (end : ℕ) → within z ≡ accepted end → (z ≡ pos end) × (end ≤ limit)
-within-accepted (negsuc n) end e = absurd (not-both refl e)
-within-accepted (pos n) end e =
-    after-unless 6 (leb n limit) _ e λ e₁ r₁.
+within-shows : (z : ℤ) (end : ℕ) → within z ≡ accepted end → (z ≡ pos end) × (end ≤ limit)
+within-shows (negsuc n) end e = no-refusal (sym e)
+within-shows (pos n) end e =
+    after-unless 6 (leb n limit) _ e no-refusal λ e₁ r₁.
     let same : n ≡ end = accepted-one refl r₁ in
     (ap pos same, rw same at (leb-true n limit e₁))
 
-pub record MoveAccepted (code position size : ℕ) (distance : ℤ) (m : Course) : Type 0 where
-  pub is-ready : Ready code position size (m .cipher)
+pub record MoveShows (code position size : ℕ) (distance : ℤ) (m : Course) : Type 0 where
+  pub is-ready : ReadyShows code position size (m .cipher)
   pub end-is : pos position +ℤ distance ≡ pos (m .end)
   pub end-within : m .end ≤ limit
 
-pub move-accepted : (code position size : ℕ) (distance : ℤ) (m : Course) → moveCheck code position size distance ≡ accepted m
-    → MoveAccepted code position size distance m
+pub move-shows : (code position size : ℕ) (distance : ℤ) (m : Course) → moveCheck code position size distance ≡ accepted m
+    → MoveShows code position size distance m
 unfolding moveCheck endOf
-move-accepted code position size distance m e =
-    after-line (ready code position size) _ e λ c e₁ r₁.
-    after-line (endOf position distance) _ r₁ λ end e₂ r₂.
-    let w = within-accepted (pos position +ℤ distance) end e₂ in
-    subst (MoveAccepted code position size distance) (accepted-one refl r₂)
-    (record { is-ready = ready-accepted code position size c e₁; end-is = w .0; end-within = w .1 })
+move-shows code position size distance m e =
+    after-line (ready code position size) _ e (λ _. no-refusal) λ c e₁ r₁.
+    after-line (endOf position distance) _ r₁ (λ _. no-refusal) λ end e₂ r₂.
+    let w = within-shows (pos position +ℤ distance) end e₂ in
+    subst (MoveShows code position size distance) (accepted-one refl r₂)
+    (record { is-ready = ready-shows code position size c e₁; end-is = w .0; end-within = w .1 })
 
-pub move-accepts : (c : Cipher) (position size : ℕ) (distance : ℤ) (end : ℕ) → size ≡ areaLength c → position ≤ limit
+pub move-accepted : (c : Cipher) (position size : ℕ) (distance : ℤ) (end : ℕ) → size ≡ areaLength c → position ≤ limit
     → pos position +ℤ distance ≡ pos end → end ≤ limit
     → moveCheck (codeOf c) position size distance ≡ accepted (record { cipher = c; end = end })
 unfolding moveCheck endOf
-move-accepts c position size distance end z l e l′ =
-    rw (ready-accepts c position size z l, e, le-leb end limit l′)
+move-accepted c position size distance end z l e l′ =
+    rw (ready-accepted (codeOf c) position size c (code-of c) z l, e, le-leb end limit l′)
 
 -- ── recover ──
 
--- a recover whose conditions before 12 hold is refused or accepted by what undoing finds
-pub recover-finds : (c : Cipher) (p : ℕ) (area : List ℕ) (k v : ℕ) → length area ≡ areaLength c → p ≤ limit
+-- where the conditions before 12 hold, what undoing finds decides, ..
+pub recover-finds : (code p : ℕ) (area : List ℕ) (k v : ℕ) (c : Cipher) → ReadyShows code p (length area) c
     → k ≡ keyLength c → v ≡ ivLength c
-    → recoverCheck (codeOf c) p area k v ≡ foundOr12 (undoAt c area p)
+    → recoverCheck code p area k v ≡ foundOr12 (undoAt c area p)
 unfolding recoverCheck
-recover-finds c p area k v z l kn vn =
-    rw (ready-accepts c p (length area) z l, eq-eqb k (keyLength c) kn, eq-eqb v (ivLength c) vn)
+recover-finds code p area k v c r kn vn =
+    let e = ready-accepted (codeOf c) p (length area) c (code-of c) (r .sized) (r .within-limit) in
+    rw (r .code-is, e, eq-eqb k (keyLength c) kn, eq-eqb v (ivLength c) vn)
+
+-- .. and they hold where the outcome x is no refusal but 12
+pub recover-passed : (code p : ℕ) (area : List ℕ) (k v : ℕ) {x : Result KeyAndIv} → Only12 x → recoverCheck code p area k v ≡ x
+    → (c : Cipher) × ReadyShows code p (length area) c × (k ≡ keyLength c) × (v ≡ ivLength c) × (foundOr12 (undoAt c area p) ≡ x)
+unfolding recoverCheck
+recover-passed code p area k v only e =
+    after-line (ready code p (length area)) _ e (λ n q s. ready-not-12 code p (length area) (s ∙ ap refused (only n q))) λ c e₁ r₁.
+    after-unless 2 (eqb k (keyLength c)) _ r₁ (λ q. omega (arith, only 2 q)) λ e₂ r₂.
+    after-unless 3 (eqb v (ivLength c)) _ r₂ (λ q. omega (arith, only 3 q)) λ e₃ r₃.
+    (c, ready-shows code p (length area) c e₁, eqb-true k (keyLength c) e₂, eqb-true v (ivLength c) e₃, r₃)
 
 -- ── load ──
 
-found-accepted : (u : Undone) (pair : KeyAndIv) → foundOr12 u ≡ accepted pair → u ≡ found (pair .key) (pair .iv)
-found-accepted none pair e = absurd (not-both refl e)
-found-accepted (found k v) pair e = ap (λ (x : KeyAndIv). found (x .key) (x .iv)) (accepted-one refl e)
+pub found-shows : (u : Undone) (pair : KeyAndIv) → foundOr12 u ≡ accepted pair → u ≡ found (pair .key) (pair .iv)
+found-shows none pair e = no-refusal (sym e)
+found-shows (found k v) pair e = ap (λ (x : KeyAndIv). found (x .key) (x .iv)) (accepted-one refl e)
 
-placed-accepted : (f : Found) (place : Place) → placed f ≡ accepted place → f ≡ is (place .position) (place .rest)
-placed-accepted (is n rest) place e = ap (λ (x : Place). is (x .position) (x .rest)) (accepted-one refl e)
-placed-accepted ended place e = absurd (not-both refl e)
-placed-accepted malformed place e = absurd (not-both refl e)
+placed-shows : (f : Found) (place : Place) → placed f ≡ accepted place → f ≡ is (place .position) (place .rest)
+placed-shows (is n rest) place e = ap (λ (x : Place). is (x .position) (x .rest)) (accepted-one refl e)
+placed-shows ended place e = no-refusal (sym e)
+placed-shows malformed place e = no-refusal (sym e)
 
--- what an accepted load has read
-pub record LoadAccepted (string : List ℕ) (size : ℕ) (l : Loaded) : Type 0 where
+placed-not-12 : (f : Found) → placed f ≡ refused 12 → ⊥
+placed-not-12 (is n rest) e = no-refusal e
+placed-not-12 ended e = let z : _≡_ {A = ℕ} 9 12 = cc in omega arith
+placed-not-12 malformed e = let z : _≡_ {A = ℕ} 10 12 = cc in omega arith
+
+-- the conditions of load before 12, and what it has read
+pub record LoadPassed (string : List ℕ) (size : ℕ) (c : Cipher) (p : ℕ) (rest : List ℕ) : Type 0 where
   pub tail : List ℕ
-  pub rest : List ℕ
-  pub string-is : string ≡ codeOf (l .cipher) ∷ tail
-  pub sized : size ≡ areaLength (l .cipher)
-  pub position-read : readNumber mostGroups tail ≡ is (l .position) rest
-  pub within-limit : l .position ≤ limit
-  pub rest-long : length rest ≡ 4 * areaLength (l .cipher)
-  pub area-is : l .area ≡ words rest
-  pub undone : undoAt (l .cipher) (words rest) (l .position) ≡ found (l .key) (l .iv)
+  pub string-is : string ≡ codeOf c ∷ tail
+  pub sized : size ≡ areaLength c
+  pub position-read : readNumber mostGroups tail ≡ is p rest
+  pub within-limit : p ≤ limit
+  pub rest-long : length rest ≡ 4 * areaLength c
 
-pub load-accepted : (string : List ℕ) (size : ℕ) (l : Loaded) → loadCheck string size ≡ accepted l → LoadAccepted string size l
+-- where they hold, what undoing finds decides, ..
+pub load-finds : (string : List ℕ) (size : ℕ) (c : Cipher) (p : ℕ) (rest : List ℕ) → LoadPassed string size c p rest
+    → loadCheck string size ≡ loadFound c p rest
 unfolding loadCheck
-load-accepted [] size l e = absurd (not-both refl e)
-load-accepted (b ∷ tail) size l e =
-    after-without 1 (byCode b) _ e λ c e₁ r₁.
-    after-unless 4 (eqb size (areaLength c)) _ r₁ λ e₂ r₂.
-    after-line (placed (readNumber mostGroups tail)) _ r₂ λ place e₃ r₃.
-    after-unless 5 (leb (place .position) limit) _ r₃ λ e₄ r₄.
-    after-unless 11 (eqb (length (place .rest)) (4 * areaLength c)) _ r₄ λ e₅ r₅.
-    after-line (foundOr12 (undoAt c (words (place .rest)) (place .position))) _ r₅ λ pair e₆ r₆.
-    subst (LoadAccepted (b ∷ tail) size) (accepted-one refl r₆)
-    (record {
-      tail = tail;
-      rest = place .rest;
-      string-is = ap (λ (x : ℕ). x ∷ tail) (by-code b c e₁);
-      sized = eqb-true size (areaLength c) e₂;
-      position-read = placed-accepted (readNumber mostGroups tail) place e₃;
-      within-limit = leb-true (place .position) limit e₄;
-      rest-long = eqb-true (length (place .rest)) (4 * areaLength c) e₅;
-      area-is = refl;
-      undone = found-accepted (undoAt c (words (place .rest)) (place .position)) pair e₆;
-    })
+load-finds string size c p rest h =
+    rw (
+      h .string-is,
+      code-of c,
+      eq-eqb size (areaLength c) (h .sized),
+      h .position-read,
+      le-leb p limit (h .within-limit),
+      eq-eqb (length rest) (4 * areaLength c) (h .rest-long),
+    )
 
--- a load whose conditions before 12 hold is refused or accepted by what undoing finds
-pub load-finds : (c : Cipher) (tail rest : List ℕ) (p size : ℕ) → size ≡ areaLength c → readNumber mostGroups tail ≡ is p rest
-    → p ≤ limit → length rest ≡ 4 * areaLength c
-    → loadCheck (codeOf c ∷ tail) size
-    ≡ (foundOr12 (undoAt c (words rest) p) >>= λ pair.
-    accepted (record { cipher = c; key = pair .key; iv = pair .iv; position = p; area = words rest }))
+-- .. and they hold where the outcome x is no refusal but 12
+pub load-passed : (string : List ℕ) (size : ℕ) {x : Result Loaded} → Only12 x → loadCheck string size ≡ x
+    → (c : Cipher) × (p : ℕ) × (rest : List ℕ) × LoadPassed string size c p rest × (loadFound c p rest ≡ x)
 unfolding loadCheck
-load-finds c tail rest p size z e l n =
-    rw (code-of c, eq-eqb size (areaLength c) z, e, le-leb p limit l, eq-eqb (length rest) (4 * areaLength c) n)
+load-passed [] size only e = absurd (omega (arith, only 9 (sym e)))
+load-passed (b ∷ tail) size only e =
+    let read = readNumber mostGroups tail in
+    after-without 1 (byCode b) _ e (λ q. omega (arith, only 1 q)) λ c e₁ r₁.
+    after-unless 4 (eqb size (areaLength c)) _ r₁ (λ q. omega (arith, only 4 q)) λ e₂ r₂.
+    after-line (placed read) _ r₂ (λ n q s. placed-not-12 read (s ∙ ap refused (only n q))) λ place e₃ r₃.
+    after-unless 5 (leb (place .position) limit) _ r₃ (λ q. omega (arith, only 5 q)) λ e₄ r₄.
+    after-unless 11 (eqb (length (place .rest)) (4 * areaLength c)) _ r₄ (λ q. omega (arith, only 11 q)) λ e₅ r₅. (
+      c,
+      place .position,
+      place .rest,
+      record {
+        tail = tail;
+        string-is = ap (λ (x : ℕ). x ∷ tail) (by-code b c e₁);
+        sized = eqb-true size (areaLength c) e₂;
+        position-read = placed-shows read place e₃;
+        within-limit = leb-true (place .position) limit e₄;
+        rest-long = eqb-true (length (place .rest)) (4 * areaLength c) e₅;
+      },
+      r₅,
+    )

@@ -1,52 +1,70 @@
 -- Demand 3 holds: after every list of calls a write gives the checkpoint of the account, and the loader accepts exactly the checkpoints of
 -- fours. Assumes nothing.
-use mathlib.Core.Path.{_≡_, refl, sym, ap, ap₂, _∙_, subst}
-use mathlib.Core.List.{List, [], _∷_}
+use mathlib.Core.Path.{_≡_, refl, sym, ap, _∙_, subst}
+use mathlib.Core.List.{List, [], _∷_, _++_}
 use mathlib.Core.Logic.{_↔_}
 use Prim.Native.Nat.{ℕ, _≤_}
 use native.Mathlib.Omega.{arith}
 use borrow.Author.Tests.{le-leb}
 use lib.Dec.{leb}
 use lib.IntN.{pos, +ℤ-idl}
-use lib.ListN.{length}
+use lib.ListN.{length, drop}
 use lib.Seq.{take-append-seam}
 use Rattle.word.specs.Bytes.{AllBytes}
 use Rattle.cipher.specs.declared.Cipher.{Cipher}
 use Rattle.cipher.specs.Numbers.{codeOf, areaLength}
+use Rattle.cipher.proofs.Codes.{code-of}
 use Rattle.engine.specs.declared.Head.{Head}
 use Rattle.engine.specs.Result.{Result, refused, accepted}
 use Rattle.engine.specs.Head.{headAt}
 use Rattle.checkpoint.specs.Checkpoint.{layout, room}
+use Rattle.checkpoint.proofs.Checkpoint.{layout-room}
 use Rattle.engine.specs.Conditions.{ready, Loaded, loadCheck}
 use Rattle.engine.specs.Calls.{Written, Opened, eightWords, write, load}
+use Rattle.engine.proofs.Conditions.{set-up-accepted, ready-accepted}
 use Rattle.theorems.specs.Account.{Call, call-set-up, call-move, call-load, AllGiven, Four, IsFour, Account, empty, holds, unless-refused, feed, account, engineAfter, accountAfter, tablesOf, checkpointOf, Checkpoint}
 use Rattle.theorems.specs.Demand3.{writeAfter, given, Names, Demand3}
-use Rattle.theorems.proofs.Results.{accepted-one, after-line, after-unless}
+use Rattle.theorems.proofs.Results.{no-refusal, accepted-one, after-line, after-unless}
 use Rattle.theorems.proofs.Tables.{four-sized}
-use Rattle.theorems.proofs.Conditions.{same-code, no-code-0, Ready, ready-accepted, ready-accepts, set-up-accepts, move-accepts}
+use Rattle.theorems.proofs.Conditions.{same-code, no-code-0, ReadyShows, ready-shows, move-accepted}
 use Rattle.theorems.proofs.Checkpoints.{fourOf, loadedOf, load-checkpoint, load-shows, load-is, checkpoint-of-one}
 use Rattle.theorems.proofs.Names.{name-of-one}
 use Rattle.theorems.proofs.Agree.{headOf, TablesAre, agree, agree-four}
 
 -- ── what is written ──
 
--- an accepted write gives the layout of head and area
-record WriteShows (h : Head) (area : List ℕ) (w : Written) : Type 0 where
-  cipher : Cipher
-  is-ready : Ready (h .code) (h .position) (length area) cipher
-  string : given w ≡ layout cipher (h .position) area
+-- an accepted write gives the layout of head and area in the room asked for, and later bytes stay
+record WriteShows (h : Head) (area lent : List ℕ) (w : Written) (c : Cipher) : Type 0 where
+  is-ready : ReadyShows (h .code) (h .position) (length area) c
+  string : given w ≡ layout c (h .position) area
+  in-room : w .length ≤ room c
+  as-long : length (given w) ≡ w .length
+  later : w .lent ≡ given w ++ drop (w .length) lent
 
-write-shows : (h : Head) (area lent : List ℕ) (w : Written) → write h area lent ≡ accepted w → WriteShows h area w
+write-shows : (h : Head) (area lent : List ℕ) (w : Written) → write h area lent ≡ accepted w → (c : Cipher) × WriteShows h area lent w c
 unfolding write
 write-shows h area lent w e =
-    after-line (ready (h .code) (h .position) (length area)) _ e λ c e₁ r₁.
-    after-unless 8 (leb (room c) (length lent)) _ r₁ λ e₂ r₂.
-    subst (WriteShows h area) (accepted-one refl r₂)
-    (record {
-      cipher = c;
-      is-ready = ready-accepted (h .code) (h .position) (length area) c e₁;
-      string = take-append-seam (layout c (h .position) area) _;
-    })
+    after-line (ready (h .code) (h .position) (length area)) _ e (λ _. no-refusal) λ c e₁ r₁.
+    after-unless 8 (leb (room c) (length lent)) _ r₁ no-refusal λ e₂ r₂.
+    let r = ready-shows (h .code) (h .position) (length area) c e₁ in
+    subst (λ (x : Written). (c : Cipher) × WriteShows h area lent x c) (accepted-one refl r₂) (
+      c,
+      record {
+        is-ready = r;
+        string = take-append-seam (layout c (h .position) area) _;
+        in-room = layout-room c (h .position) area (r .sized) (omega arith);
+        as-long = ap length (take-append-seam (layout c (h .position) area) _);
+        later =
+            ap (λ (x : List ℕ). x ++ drop (length (layout c (h .position) area)) lent) (sym (take-append-seam (layout c (h .position) area) _));
+      },
+    )
+
+-- from the head of a four
+four-write-shows : (f : Four) (area lent : List ℕ) (w : Written) → write (headOf (holds f)) area lent ≡ accepted w
+    → WriteShows (headOf (holds f)) area lent w (f .cipher)
+four-write-shows f area lent w e =
+    let (c, s) = write-shows (headOf (holds f)) area lent w e in
+    subst (WriteShows (headOf (holds f)) area lent w) (sym (same-code (f .cipher) c (s .is-ready .code-is))) s
 
 -- the account is a four whose checkpoint the write has given
 abbrev GivesCheckpoint : Account → Written → Type 0
@@ -57,13 +75,11 @@ write-gives : (a : Account) (area lent : List ℕ) (w : Written) → TablesAre a
     → write (headOf a) area lent ≡ accepted w → GivesCheckpoint a w
 unfolding checkpointOf
 write-gives empty area lent w t e =
-    let s = write-shows (headOf empty) area lent w e in
-    absurd (no-code-0 (s .cipher) (s .is-ready .code-is))
+    let (c, s) = write-shows (headOf empty) area lent w e in
+    absurd (no-code-0 c (s .is-ready .code-is))
 write-gives (holds f) area lent w t e =
-    let s = write-shows (headOf (holds f)) area lent w e in
-    let c : s .cipher ≡ f .cipher = sym (same-code (f .cipher) (s .cipher) (s .is-ready .code-is)) in
-    let string = s .string ∙ ap₂ (λ (d : Cipher) (x : List ℕ). layout d (f .position) x) c (t .1) in
-    (f, refl, record { isFour = t .0; isString = string })
+    let s = four-write-shows f area lent w e in
+    (f, refl, record { isFour = t .0; isString = s .string ∙ ap (layout (f .cipher) (f .position)) (t .1) })
 
 written :
     (calls : List Call) → AllGiven calls → (area lent : List ℕ) (w : Written)
@@ -72,12 +88,22 @@ written calls g area lent w e =
     let h = agree calls g area in
     write-gives (accountAfter calls area) (engineAfter calls area .area) lent w (h .tables-are) (rw (h .head-is) at e)
 
-write-accepts : (f : Four) (area lent : List ℕ) → IsFour f → area ≡ tablesOf f → room (f .cipher) ≤ length lent
+fits :
+    (calls : List Call) → AllGiven calls → (area lent : List ℕ) (f : Four) (w : Written)
+    → accountAfter calls area ≡ holds f → writeAfter calls area lent ≡ accepted w
+    → (w .length ≤ room (f .cipher)) × (length (given w) ≡ w .length) × (w .lent ≡ given w ++ drop (w .length) lent)
+fits calls g area lent f w q e =
+    let h = agree-four calls g area f q in
+    let s = four-write-shows f (engineAfter calls area .area) lent w (rw (h .head-is) at e) in
+    (s .in-room, s .as-long, s .later)
+
+write-accepted : (f : Four) (area lent : List ℕ) → IsFour f → area ≡ tablesOf f → room (f .cipher) ≤ length lent
     → (w : Written) × (write (headOf (holds f)) area lent ≡ accepted w)
 unfolding write
-write-accepts f area lent h e l =
-    let r = ready-accepts (f .cipher) (f .position) (length area) (four-sized f area h e) (h .within) in
-    rw (r, le-leb (room (f .cipher)) (length lent) l) (_, refl)
+write-accepted f area lent h e l =
+    let c = f .cipher in
+    let r = ready-accepted (codeOf c) (f .position) (length area) c (code-of c) (four-sized f area h e) (h .within) in
+    rw (r, le-leb (room c) (length lent) l) (_, refl)
 
 writable :
     (calls : List Call) → AllGiven calls → (area lent : List ℕ) (f : Four)
@@ -85,7 +111,7 @@ writable :
     → (w : Written) × (writeAfter calls area lent ≡ accepted w)
 writable calls g area lent f e l =
     let h = agree-four calls g area f e in
-    rw (h .head-is) (write-accepts f (engineAfter calls area .area) lent (h .tables-are .0) (h .tables-are .1) l)
+    rw (h .head-is) (write-accepted f (engineAfter calls area .area) lent (h .tables-are .0) (h .tables-are .1) l)
 
 -- a set up, and then a move
 reached :
@@ -99,8 +125,8 @@ reached f h area z =
       call-set-up (codeOf c) (f .key) (f .iv) ∷ call-move (pos p) ∷ [],
       ((k .key-bytes, k .iv-bytes), (tt, tt)),
       rw (
-        set-up-accepts c (length (f .key)) (length (f .iv)) (length area) (k .key-long) (k .iv-long) z,
-        move-accepts c 0 (length area) (pos p) p z (omega arith) (+ℤ-idl (pos p)) (h .within),
+        set-up-accepted (codeOf c) (length (f .key)) (length (f .iv)) (length area) c (code-of c) (k .key-long) (k .iv-long) z,
+        move-accepted c 0 (length area) (pos p) p z (omega arith) (+ℤ-idl (pos p)) (h .within),
       ),
     )
 
@@ -119,8 +145,8 @@ compared calls calls′ g g′ area area′ lent lent′ w w′ e e′ =
 -- ── what is loaded ──
 
 -- the answer of an accepted load
-abbrev opened : Loaded → Opened
-opened l = record {
+abbrev openedOf : Loaded → Opened
+openedOf l = record {
   engine = record { head = headAt (codeOf (l .cipher)) (l .position); area = l .area };
   key = eightWords (l .key);
   iv = eightWords (l .iv);
@@ -128,14 +154,14 @@ opened l = record {
 
 module _ {C : Type 0} where
   after-load : (string area : List ℕ) (o : Opened) → load string area ≡ accepted o
-      → ((l : Loaded) → loadCheck string (length area) ≡ accepted l → opened l ≡ o → C) → C
+      → ((l : Loaded) → loadCheck string (length area) ≡ accepted l → openedOf l ≡ o → C) → C
   unfolding load
-  after-load string area o e k = after-line (loadCheck string (length area)) _ e λ l e₁ r₁. k l e₁ (accepted-one refl r₁)
+  after-load string area o e k = after-line (loadCheck string (length area)) _ e (λ _. no-refusal) λ l e₁ r₁. k l e₁ (accepted-one refl r₁)
 
-load-accepts : (string area : List ℕ) (f : Four) → Checkpoint string f → length area ≡ areaLength (f .cipher)
-    → load string area ≡ accepted (opened (loadedOf f))
+load-accepted : (string area : List ℕ) (f : Four) → Checkpoint string f → length area ≡ areaLength (f .cipher)
+    → load string area ≡ accepted (openedOf (loadedOf f))
 unfolding load
-load-accepts string area f h z = rw (load-checkpoint string (length area) f h z)
+load-accepted string area f h z = rw (load-checkpoint string (length area) f h z)
 
 loaded :
     (string area : List ℕ) → AllBytes string
@@ -145,13 +171,13 @@ loaded string area all = (
       after-load string area (t .0) (t .1) λ l e r.
       let s = load-shows string (length area) l all e in
       (fourOf l, s .checkpoint, s .sized)),
-  (λ t. (_, load-accepts string area (t .0) (t .1) (t .2))),
+  (λ t. (_, load-accepted string area (t .0) (t .1) (t .2))),
 )
 
 named : (string area : List ℕ) (o : Opened) (f : Four) → load string area ≡ accepted o → Checkpoint string f → Names o f
 named string area o f e h =
     after-load string area o e λ l e₁ r₁.
-    subst (λ (x : Opened). Names x f) (sym (ap opened (load-is string (length area) l f e₁ h)) ∙ r₁)
+    subst (λ (x : Opened). Names x f) (sym (ap openedOf (load-is string (length area) l f e₁ h)) ∙ r₁)
     (record { code = refl; position = refl; key = refl; iv = refl })
 
 feed-load :
@@ -177,6 +203,7 @@ feed-else size a string all no-four =
 pub demand3 : Demand3
 demand3 = record {
   written = written;
+  fits = fits;
   writable = writable;
   reached = reached;
   compared = compared;

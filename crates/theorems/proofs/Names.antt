@@ -21,15 +21,15 @@ eight-words-one n k m bk bm lk lm e =
     sym (take-at (words k) _ n (length-words n k lk)) ∙ ap (take n) e ∙ take-at (words m) _ n (length-words n m lm) in
     sym (bytes-words n k lk bk) ∙ ap bytes w ∙ bytes-words n m lm bm
 
--- the words of a key and of an IV
-words-long : (c : Cipher) → (n : ℕ) × (keyLength c ≡ 4 * n) × (ivLength c ≡ 4 * n)
-words-long Hc128 = (4, refl, refl)
-words-long Hc256 = (8, refl, refl)
+-- a key and an IV are n whole words
+whole-words : (c : Cipher) → (n : ℕ) × (keyLength c ≡ 4 * n) × (ivLength c ≡ 4 * n)
+whole-words Hc128 = (4, refl, refl)
+whole-words Hc256 = (8, refl, refl)
 
 pub name-of-one : (o : Opened) (f g : Four) → IsFour f → IsFour g → Names o f → Names o g → f ≡ g
 name-of-one o f g hf hg nf ng =
     let c : f .cipher ≡ g .cipher = same-code (f .cipher) (g .cipher) (sym (nf .code) ∙ ng .code) in
-    let (n, kn, vn) = words-long (g .cipher) in
+    let (n, kn, vn) = whole-words (g .cipher) in
     let a = hf .pair in
     let b = hg .pair in
     let k =

@@ -1,53 +1,96 @@
--- Refusal 12 is given exactly where no key and IV have these tables at this position. Assumes nothing.
-use mathlib.Core.Path.{_≡_, refl, ap}
+-- Refusal 12 is given exactly where the conditions before it hold and no key and IV have these tables at this position. Assumes nothing.
+use mathlib.Core.Path.{_≡_, refl, ap, _∙_}
 use mathlib.Core.List.{List}
-use mathlib.Core.Logic.{_↔_, Iff·trans}
-use Prim.Native.Nat.{ℕ, _≤_}
+use mathlib.Core.Logic.{_↔_}
+use Prim.Native.Nat.{ℕ}
 use native.Mathlib.Omega.{arith}
 use lib.ListN.{length}
+use Rattle.word.specs.Bytes.{words, AllBytes, AllWords}
+use Rattle.word.proofs.Bytes.{words-bytes}
 use Rattle.cipher.specs.declared.Cipher.{Cipher}
-use Rattle.cipher.specs.Numbers.{codeOf, areaLength, keyLength, ivLength}
 use Rattle.tables.specs.Area.{Area}
 use Rattle.setup.specs.SetUp.{Undone, none, found}
+use Rattle.engine.specs.declared.Head.{Head}
 use Rattle.engine.specs.Result.{refused}
-use Rattle.engine.specs.Head.{limit, headAt}
-use Rattle.checkpoint.specs.Checkpoint.{layout}
 use Rattle.engine.specs.Conditions.{undoAt, foundOr12, recoverCheck, loadCheck}
 use Rattle.engine.specs.Calls.{recover, load}
-use Rattle.theorems.specs.Refusal12.{NoneHave, Refusal12}
-use Rattle.theorems.proofs.Results.{not-both, refused-iff}
+use Rattle.theorems.specs.Refusal12.{NoneHave, RecoverNone, LoadNone, Refusal12}
+use Rattle.theorems.proofs.Results.{no-refusal, refused-iff}
 use Rattle.theorems.proofs.Tables.{undo-finds, found-have}
-use Rattle.theorems.proofs.Conditions.{recover-finds}
-use Rattle.theorems.proofs.Checkpoints.{load-layout}
+use Rattle.theorems.proofs.Conditions.{refused-only, ReadyShows, recover-finds, recover-passed, load-finds, load-passed}
+use Rattle.theorems.proofs.Checkpoints.{LaidOut, laid-out-passed, passed-laid-out}
 
-undone-none : (c : Cipher) (s : List ℕ) (p : ℕ) → Area c s → (u : Undone) → undoAt c s p ≡ u → foundOr12 u ≡ refused 12 ↔ NoneHave c s p
-undone-none c s p area none e = (
-  (λ r k v pair h. let z : _≡_ {A = ℕ} 0 1 = cc (e, ap (λ (x : List ℕ). undoAt c x p) h, undo-finds c k v p pair) in omega arith),
-  (λ n. refl),
-)
-undone-none c s p area (found k v) e = (
-  (λ r. absurd (not-both r refl)),
-  (λ n. let h = found-have c s p k v area e in absurd (n k v (h .0) (h .1))),
-)
+module _ (c : Cipher) (s : List ℕ) (p : ℕ) (area : Area c s) where
+  undone-none : (u : Undone) → undoAt c s p ≡ u → foundOr12 u ≡ refused 12 ↔ NoneHave c s p
+  undone-none none e = (
+    (λ r k v pair h. let z : _≡_ {A = ℕ} 0 1 = cc (e, ap (λ (x : List ℕ). undoAt c x p) h, undo-finds c k v p pair) in omega arith),
+    (λ n. refl),
+  )
+  undone-none (found k v) e = (
+    no-refusal,
+    (λ n. let h = found-have c s p k v area e in absurd (n k v (h .0) (h .1))),
+  )
 
-of-recover :
-    (c : Cipher) (p : ℕ) (area key iv : List ℕ) → Area c area → p ≤ limit → length key ≡ keyLength c → length iv ≡ ivLength c
-    → recover (headAt (codeOf c) p) area key iv ≡ refused 12 ↔ NoneHave c area p
+  -- the last condition refuses exactly where none have the tables
+  last-refused : foundOr12 (undoAt c s p) ≡ refused 12 ↔ NoneHave c s p
+  last-refused = undone-none (undoAt c s p) refl
+
+of-recover : (h : Head) (area key iv : List ℕ) → AllWords area → recover h area key iv ≡ refused 12 ↔ RecoverNone h area key iv
 unfolding recover
-of-recover c p area key iv a l kn vn =
-    Iff·trans
-    (refused-iff _ (recoverCheck (codeOf c) p area (length key) (length iv)) 12)
-    (rw (recover-finds c p area (length key) (length iv) (a .sized) l kn vn) (undone-none c area p a (undoAt c area p) refl))
+of-recover h area key iv all =
+    let k = length key in
+    let v = length iv in
+    let same = refused-iff _ (recoverCheck (h .code) (h .position) area k v) 12 in (
+      (λ e.
+          let (c, r, kn, vn, last) = recover-passed (h .code) (h .position) area k v refused-only (same .0 e) in
+          record {
+            cipher = c;
+            code-is = r .code-is;
+            sized = r .sized;
+            within = r .within-limit;
+            key-long = kn;
+            iv-long = vn;
+            none-have = last-refused c area (h .position) (record { sized = r .sized; words = all }) .0 last;
+          }),
+      (λ t.
+          let c = t .cipher in
+          let r : ReadyShows (h .code) (h .position) (length area) c =
+          record { code-is = t .code-is; sized = t .sized; within-limit = t .within } in
+          same .1
+          (recover-finds (h .code) (h .position) area k v c r (t .key-long) (t .iv-long)
+          ∙ last-refused c area (h .position) (record { sized = t .sized; words = all }) .1 (t .none-have))),
+    )
 
-of-load :
-    (c : Cipher) (p : ℕ) (s area : List ℕ) → Area c s → p ≤ limit → length area ≡ areaLength c
-    → load (layout c p s) area ≡ refused 12 ↔ NoneHave c s p
+of-load : (string area : List ℕ) → AllBytes string → load string area ≡ refused 12 ↔ LoadNone string area
 unfolding load
-of-load c p s area a l z =
-    Iff·trans
-    (refused-iff _ (loadCheck (layout c p s) (length area)) 12)
-    (rw (load-layout c p s (length area) a l z)
-    (Iff·trans (refused-iff _ (foundOr12 (undoAt c s p)) 12) (undone-none c s p a (undoAt c s p) refl)))
+of-load string area all =
+    let size = length area in
+    let same = refused-iff _ (loadCheck string size) 12 in (
+      (λ e.
+          let (c, p, rest, passed, last) = load-passed string size refused-only (same .0 e) in
+          let h = passed-laid-out string size c p rest all passed in
+          let s = words rest in
+          record {
+            cipher = c;
+            position = p;
+            tables = s;
+            is-area = h .is-area;
+            within = h .within;
+            string-is = h .string-is;
+            sized = h .sized;
+            none-have = last-refused c s p (h .is-area) .0 (refused-iff _ (foundOr12 (undoAt c s p)) 12 .0 last);
+          }),
+      (λ t.
+          let c = t .cipher in
+          let p = t .position in
+          let s = t .tables in
+          let h : LaidOut string size c p s =
+          record { is-area = t .is-area; within = t .within; string-is = t .string-is; sized = t .sized } in
+          same .1
+          (load-finds string size c p _ (laid-out-passed string size c p s h)
+          ∙ rw (words-bytes s (t .is-area .words))
+          (refused-iff _ (foundOr12 (undoAt c s p)) 12 .1 (last-refused c s p (t .is-area) .1 (t .none-have))))),
+    )
 
 pub refusal12 : Refusal12
 refusal12 = record { of-recover = of-recover; of-load = of-load }

@@ -1,5 +1,5 @@
--- What an accepted `do` block shows of each of its lines. Assumes nothing.
-use mathlib.Core.Path.{_≡_, refl}
+-- What the outcome of a `do` block shows of each of its lines. Assumes nothing.
+use mathlib.Core.Path.{_≡_, refl, sym}
 use mathlib.Core.Bool.{Bool, true, false}
 use mathlib.Core.Option.{Option, none, some}
 use mathlib.Core.Logic.{_↔_}
@@ -8,8 +8,9 @@ use native.Mathlib.Omega.{arith}
 use Rattle.engine.specs.Result.{Result, refused, accepted, left, _>>=_, _>>_, refuse_unless_, refuse_without_}
 
 module _ {A : Type 0} where
-  pub not-both : {n : ℕ} {a : A} {r : Result A} → r ≡ refused n → r ≡ accepted a → ⊥
-  not-both p q = let z : _≡_ {A = ℕ} 0 1 = cc in omega arith
+  -- what is accepted is no refusal, so any C follows
+  pub no-refusal : {C : Type 0} {n : ℕ} {a : A} → accepted a ≡ refused n → C
+  no-refusal e = let z : _≡_ {A = ℕ} 0 1 = cc in absurd (omega arith)
 
   pub accepted-one : {a b : A} {r : Result A} → r ≡ accepted a → r ≡ accepted b → a ≡ b
   accepted-one p q = cc
@@ -24,27 +25,28 @@ module _ {A B : Type 0} where
   -- a block whose last line accepts is refused exactly where the lines before it are
   pub refused-iff : (f : A → B) (r : Result A) (n : ℕ) → (r >>= λ a. accepted (f a)) ≡ refused n ↔ r ≡ refused n
   refused-iff f (refused m) n = ((λ e. cc), (λ e. cc))
-  refused-iff f (accepted a) n = ((λ e. absurd (not-both e refl)), (λ e. absurd (not-both e refl)))
+  refused-iff f (accepted a) n = (no-refusal, no-refusal)
 
   -- where a block is accepted, so are the lines after its first
   pub after-first : (r : Result A) (q : Result B) {b : B} → (r >> q) ≡ accepted b → q ≡ accepted b
-  after-first (refused n) q e = absurd (not-both refl e)
+  after-first (refused n) q e = no-refusal (sym e)
   after-first (accepted a) q e = e
 
--- where a block is accepted, so are its first line and the lines after it; C is what is to be shown from that
+-- where a block's outcome x is not the refusal of its first line, that line is accepted, and x is the outcome of the lines after it; C is
+-- what is to be shown from that
 module _ {A B C : Type 0} where
-  pub after-line : (r : Result A) (f : A → Result B) {b : B} → (r >>= f) ≡ accepted b
-      → ((a : A) → r ≡ accepted a → f a ≡ accepted b → C) → C
-  after-line (refused n) f e k = absurd (not-both refl e)
-  after-line (accepted a) f e k = k a refl e
+  pub after-line : (r : Result A) (f : A → Result B) {x : Result B} → (r >>= f) ≡ x → ((n : ℕ) → x ≡ refused n → r ≡ refused n → ⊥)
+      → ((a : A) → r ≡ accepted a → f a ≡ x → C) → C
+  after-line (refused n) f e other k = absurd (other n (sym e) refl)
+  after-line (accepted a) f e other k = k a refl e
 
-  pub after-without : (n : ℕ) (o : Option A) (f : A → Result B) {b : B} → ((refuse n without o) >>= f) ≡ accepted b
-      → ((a : A) → o ≡ some a → f a ≡ accepted b → C) → C
-  after-without n none f e k = absurd (not-both refl e)
-  after-without n (some a) f e k = k a refl e
+  pub after-without : (n : ℕ) (o : Option A) (f : A → Result B) {x : Result B} → ((refuse n without o) >>= f) ≡ x → (x ≡ refused n → ⊥)
+      → ((a : A) → o ≡ some a → f a ≡ x → C) → C
+  after-without n none f e other k = absurd (other (sym e))
+  after-without n (some a) f e other k = k a refl e
 
 module _ {B C : Type 0} where
-  pub after-unless : (n : ℕ) (t : Bool) (r : Result B) {b : B} → ((refuse n unless t) >> r) ≡ accepted b
-      → (t ≡ true → r ≡ accepted b → C) → C
-  after-unless n true r e k = k refl e
-  after-unless n false r e k = absurd (not-both refl e)
+  pub after-unless : (n : ℕ) (t : Bool) (r : Result B) {x : Result B} → ((refuse n unless t) >> r) ≡ x → (x ≡ refused n → ⊥)
+      → (t ≡ true → r ≡ x → C) → C
+  after-unless n true r e other k = k refl e
+  after-unless n false r e other k = absurd (other (sym e))

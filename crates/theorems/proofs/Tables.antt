@@ -49,8 +49,8 @@ module _ (c : Cipher) (s : List ℕ) (area : Area c s) (p q : ℕ) where
   pub moved-area : Area c (moved c s p q)
   moved-area = rw moved-from (steps-area c _ 0 (stepsAt q) (steps-back-area c s 0 (stepsAt p) area))
 
-  pub moved-back : moved c (moved c s p q) q p ≡ s
-  moved-back =
+  pub moved-undone : moved c (moved c s p q) q p ≡ s
+  moved-undone =
       ap (λ (t : List ℕ). moved c t q p) moved-from
       ∙ moved-tables c _ (steps-back-area c s 0 (stepsAt p) area) q p
       ∙ steps-redone c s 0 (stepsAt p) area

@@ -2,8 +2,8 @@
 -- IV, and a move and the move back restore the tables.
 use mathlib.Core.Path.{_≡_}
 use mathlib.Core.List.{List}
-use Prim.Native.Nat.{ℕ, _+_, _<_}
-use lib.IntN.{ℤ, negℤ}
+use Prim.Native.Nat.{ℕ, _+_, _≤_, _<_}
+use lib.IntN.{ℤ, pos, negℤ, _+ℤ_}
 use lib.ListN.{length, getD}
 use Rattle.word.specs.Word.{_⊕_}
 use Rattle.word.specs.Bytes.{AllWords}
@@ -12,10 +12,20 @@ use Rattle.keystream.specs.Keystream.{keystream}
 use Rattle.setup.specs.SetUp as SetUp
 use Rattle.engine.specs.declared.Head.{Head}
 use Rattle.engine.specs.Result.{accepted}
+use Rattle.engine.specs.Head.{limit}
 use Rattle.engine.specs.Calls.{Engine, Ciphered, cipher, move, recover}
 use Rattle.theorems.specs.Account.{Call, AllGiven, Four, holds, engineAfter, accountAfter}
 
 pub record Demand2 : Type 0 where
+  -- A cipher call that ends within the limit is accepted whenever the account is a four, and so is a move.
+  pub cipherable :
+      (calls : List Call) → AllGiven calls → (area bytes : List ℕ) (f : Four) → accountAfter calls area ≡ holds f
+      → f .position + length bytes ≤ limit
+      → (r : Ciphered) × (cipher (engineAfter calls area .head) (engineAfter calls area .area) bytes ≡ accepted r)
+  pub movable :
+      (calls : List Call) → AllGiven calls → (area : List ℕ) (d : ℤ) (f : Four) (end : ℕ) → accountAfter calls area ≡ holds f
+      → pos (f .position) +ℤ d ≡ pos end → end ≤ limit
+      → (e : Engine) × (move (engineAfter calls area .head) (engineAfter calls area .area) d ≡ accepted e)
   -- The byte enciphered at a position is the plain byte with that keystream byte of the account's cipher, key and IV.
   pub enciphered :
       (calls : List Call) → AllGiven calls → (area bytes : List ℕ) (f : Four) → accountAfter calls area ≡ holds f
@@ -28,8 +38,9 @@ pub record Demand2 : Type 0 where
       → length key ≡ keyLength (f .cipher) → length iv ≡ ivLength (f .cipher)
       → recover (engineAfter calls area .head) (engineAfter calls area .area) key iv
       ≡ accepted (record { head = engineAfter calls area .head; key = f .key; iv = f .iv })
-  -- A move by d and back by -d, where both are accepted, restores head and tables.
+  -- Ciphering keeps the number of bytes.
+  pub as-long : (h : Head) (area bytes : List ℕ) (r : Ciphered) → cipher h area bytes ≡ accepted r → length (r .bytes) ≡ length bytes
+  -- Where a move by d is accepted, so is the move back by -d, and it restores head and tables.
   pub moved-back :
-      (h : Head) (area : List ℕ) (d : ℤ) (there back : Engine) → AllWords area
-      → move h area d ≡ accepted there → move (there .head) (there .area) (negℤ d) ≡ accepted back
-      → back ≡ record { head = h; area = area }
+      (h : Head) (area : List ℕ) (d : ℤ) (there : Engine) → AllWords area → move h area d ≡ accepted there
+      → move (there .head) (there .area) (negℤ d) ≡ accepted (record { head = h; area = area })

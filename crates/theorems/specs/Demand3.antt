@@ -1,9 +1,9 @@
 -- Demand 3, a single claim about lists of calls of every length.
 use mathlib.Core.Path.{_≡_}
-use mathlib.Core.List.{List}
+use mathlib.Core.List.{List, _++_}
 use mathlib.Core.Logic.{_↔_}
 use Prim.Native.Nat.{ℕ, _≤_}
-use lib.ListN.{length, take}
+use lib.ListN.{length, take, drop}
 use Rattle.word.specs.Bytes.{AllBytes}
 use Rattle.cipher.specs.Numbers.{codeOf, areaLength}
 use Rattle.engine.specs.Result.{Result, accepted}
@@ -32,6 +32,11 @@ pub record Demand3 : Type 0 where
       (calls : List Call) → AllGiven calls → (area lent : List ℕ) (w : Written)
       → writeAfter calls area lent ≡ accepted w
       → (f : Four) × (accountAfter calls area ≡ holds f) × Checkpoint (given w) f
+  -- What is written is as long as the returned length, which is at most the room that write asks for, and later bytes stay.
+  pub fits :
+      (calls : List Call) → AllGiven calls → (area lent : List ℕ) (f : Four) (w : Written)
+      → accountAfter calls area ≡ holds f → writeAfter calls area lent ≡ accepted w
+      → (w .length ≤ room (f .cipher)) × (length (given w) ≡ w .length) × (w .lent ≡ given w ++ drop (w .length) lent)
   -- A write with room is accepted whenever the account is a four.
   pub writable :
       (calls : List Call) → AllGiven calls → (area lent : List ℕ) (f : Four)

@@ -1,27 +1,32 @@
--- The starred examples of document 01 that concern the ciphers: what each computes, and the numbers that the document gives.
+-- The twelve starred examples of document 01: what each computes, and what the document gives.
 use mathlib.Core.Path.{_≡_}
 use mathlib.Core.List.{List, [], _∷_, map}
 use Prim.Native.Nat.{ℕ}
 use lib.ListN.{getD, replicate}
 use Rattle.word.specs.Word.{f1, f2, R, L}
+use Rattle.varint.specs.Number.{number}
 use Rattle.cipher.specs.declared.Cipher.the-variants.{Hc128}
 use Rattle.tables.specs.Functions.{g128, h128, h256}
 use Rattle.schedule.specs.Expansion.{expansion}
 use Rattle.schedule.specs.Key.{sixteen}
 use Rattle.keystream.specs.Steps.{stepsAt}
+use Rattle.engine.specs.Head.{limit}
 
+-- what stands under one star: numbers, or strings of bytes
 pub record Example : Type 0 where
-  pub computed : List ℕ
-  pub given : List ℕ
+  pub computed : List (List ℕ)
+  pub given : List (List ℕ)
 
--- a single number, or several that stand under one star
 abbrev pub is : ℕ → ℕ → Example
-is x y = record { computed = x ∷ []; given = y ∷ [] }
+is x y = record { computed = (x ∷ []) ∷ []; given = (y ∷ []) ∷ [] }
 
 abbrev pub are : List ℕ → List ℕ → Example
-are xs ys = record { computed = xs; given = ys }
+are xs ys = record { computed = xs ∷ []; given = ys ∷ [] }
 
--- W16, W17 and W18 of a zero key and IV
+abbrev pub strings : List (List ℕ) → List (List ℕ) → Example
+strings xs ys = record { computed = xs; given = ys }
+
+-- the expansion of a zero key and IV, up to W18
 unfoldable pub zeroExpansion : List ℕ
 zeroExpansion = expansion (sixteen Hc128 (replicate 16 0) (replicate 16 0)) 3
 
@@ -37,6 +42,8 @@ examples =
     ∷ is (h128 (λ k. k) 0x00020003) 261
     ∷ is (h256 (λ k. k) 0x00020003) 1541
     ∷ are (map stepsAt (0 ∷ 1 ∷ 4 ∷ 5 ∷ [])) (0 ∷ 1 ∷ 1 ∷ 2 ∷ [])
+    ∷ strings (map number (300 ∷ 16383 ∷ 16384 ∷ [])) ((0xAC ∷ 0x02 ∷ []) ∷ (0xFF ∷ 0x7F ∷ []) ∷ (0x80 ∷ 0x80 ∷ 0x01 ∷ []) ∷ [])
+    ∷ are (number limit) (0x80 ∷ 0x80 ∷ 0x80 ∷ 0x20 ∷ [])
     ∷ []
 
 -- each computes what is given

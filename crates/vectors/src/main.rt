@@ -1,9 +1,7 @@
 // The vectors of appendix A of both papers, run: cipher, vector, `ok` or `wrong`.
-ghost use mathlib.Core.Path.{_≡_};
-ghost use Prim.Native.Nat.{_^_, _≤_};
+ghost use Prim.Native.Nat.{_≤_};
 ghost use lib.ListN.{length};
-ghost use Rattle.cipher.specs.Numbers.{areaLength, keyLength, ivLength};
-use cipher::Cipher;
+use engine::Head;
 use libc::STDOUT_FILENO;
 
 // Key and IV 0.
@@ -162,13 +160,14 @@ fn same_words(buffer: &[u8; 64], expected: &[u32; 16]) -> bool {
 }
 
 // A buffer of 64 zero bytes enciphered `blocks` times over, each time with the next 64 bytes of keystream.
-fn enciphered(cipher: Cipher, area: &mut [u32], blocks: usize) -> [u8; 64]
-    requires { ⌜ (length (now area) ≡ areaLength cipher) × (blocks ≤ 2 ^ 20) ⌝ }
-{
+fn enciphered(head: Head, area: &mut [u32], blocks: usize) -> [u8; 64] {
+    let mut h = head;
     let mut buffer = [0u8; 64];
     let mut k = 0;
     while k < blocks {
-        keystream::xor_keystream(cipher, area, 64 * k, &mut buffer);
+        let done = h.cipher(area, &mut buffer);
+        let next = done.head;
+        h = next;
         k += 1;
     }
     buffer
@@ -176,54 +175,53 @@ fn enciphered(cipher: Cipher, area: &mut [u32], blocks: usize) -> [u8; 64]
 
 // Whether the stream of a key and an IV gives the expected words.
 fn gives(
-    cipher: Cipher,
+    code: u8,
     key: &[u8],
     iv: &[u8],
     area: &mut [u32],
     blocks: usize,
     expected: &[u32; 16],
-) -> bool
-    requires { ⌜ (length (now key) ≡ keyLength cipher) × (length (now iv) ≡ ivLength cipher) × (length (now area) ≡ areaLength cipher) × (blocks ≤ 2 ^ 20) ⌝ }
-{
-    setup::set_up(cipher, key, iv, area);
-    let buffer = enciphered(cipher, area, blocks);
+) -> bool {
+    let done = Head::fresh().set_up(code, key, iv, area);
+    let head = done.head;
+    let buffer = enciphered(head, area, blocks);
     same_words(&buffer, expected)
 }
 
-// The same in buffers that are long enough for either cipher.
-fn gives_in(
-    cipher: Cipher,
+// The numbers of a cipher that a vector needs: its code, the bytes of its key and IV, and the words of its area.
+struct Sizes {
+    code: u8,
+    key: usize,
+    area: usize,
+}
+
+// Whether a vector holds: key and IV are 0 but for their first bytes, in buffers that either cipher fits.
+fn holds(
+    sizes: Sizes,
     key: &[u8],
     iv: &[u8],
     area: &mut [u32],
     blocks: usize,
     expected: &[u32; 16],
 ) -> bool
-    requires { ⌜ (length (now key) ≡ 32) × (length (now iv) ≡ 32) × (length (now area) ≡ 2048) × (blocks ≤ 2 ^ 20) ⌝ }
+    requires { ⌜ (sizes .key ≤ length (now key)) × (sizes .key ≤ length (now iv)) × (sizes .area ≤ length (now area)) ⌝ }
 {
-    let k = cipher::key_bytes(cipher);
-    let v = cipher::iv_bytes(cipher);
-    let n = cipher::area_words(cipher);
-    gives(
-        cipher,
-        &key[..k],
-        &iv[..v],
-        &mut area[..n],
-        blocks,
-        expected,
-    )
+    let code = sizes.code;
+    let k = sizes.key;
+    let n = sizes.area;
+    gives(code, &key[..k], &iv[..k], &mut area[..n], blocks, expected)
 }
 
-// Runs one vector: key and IV are 0 but for their first bytes.
-fn run(name: &[u8], cipher: Cipher, key_byte: u8, iv_byte: u8, blocks: usize, expected: &[u32; 16])
-    requires { ⌜ blocks ≤ 2 ^ 20 ⌝ }
+// Runs one vector and prints its line.
+fn run(name: &[u8], sizes: Sizes, key_byte: u8, iv_byte: u8, blocks: usize, expected: &[u32; 16])
+    requires { ⌜ (sizes .key ≤ 32) × (sizes .area ≤ 2048) ⌝ }
 {
     let mut key = [0u8; 32];
     let mut iv = [0u8; 32];
     let mut area = [0u32; 2048];
     key[0] = key_byte;
     iv[0] = iv_byte;
-    let ok = gives_in(cipher, &key, &iv, &mut area, blocks, expected);
+    let ok = holds(sizes, &key, &iv, &mut area, blocks, expected);
     io::write_all(STDOUT_FILENO, name);
     if ok {
         io::write_all(STDOUT_FILENO, b" ok\n");
@@ -232,12 +230,24 @@ fn run(name: &[u8], cipher: Cipher, key_byte: u8, iv_byte: u8, blocks: usize, ex
     }
 }
 
+const HC128: Sizes = Sizes {
+    code: 1,
+    key: 16,
+    area: 1024,
+};
+
+const HC256: Sizes = Sizes {
+    code: 2,
+    key: 32,
+    area: 2048,
+};
+
 fn main() {
-    run(b"HC-128 1", Cipher::Hc128, 0, 0, 1, &HC128_1);
-    run(b"HC-128 2", Cipher::Hc128, 0, 1, 1, &HC128_2);
-    run(b"HC-128 3", Cipher::Hc128, 0x55, 0, 1, &HC128_3);
-    run(b"HC-128 A", Cipher::Hc128, 0, 0, 1048576, &HC128_A);
-    run(b"HC-256 1", Cipher::Hc256, 0, 0, 1, &HC256_1);
-    run(b"HC-256 2", Cipher::Hc256, 0, 1, 1, &HC256_2);
-    run(b"HC-256 3", Cipher::Hc256, 0x55, 0, 1, &HC256_3);
+    run(b"HC-128 1", HC128, 0, 0, 1, &HC128_1);
+    run(b"HC-128 2", HC128, 0, 1, 1, &HC128_2);
+    run(b"HC-128 3", HC128, 0x55, 0, 1, &HC128_3);
+    run(b"HC-128 A", HC128, 0, 0, 1048576, &HC128_A);
+    run(b"HC-256 1", HC256, 0, 0, 1, &HC256_1);
+    run(b"HC-256 2", HC256, 0, 1, 1, &HC256_2);
+    run(b"HC-256 3", HC256, 0x55, 0, 1, &HC256_3);
 }

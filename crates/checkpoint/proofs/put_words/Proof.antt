@@ -25,9 +25,11 @@ loop-again : tie.Need-loop-again Inv-loop μ-loop
 loop-again c =
     let l = c .before .before .before .before .before .before .loop in
     let a = c .before .before .before .before .before .before .before .before .before .args in
-    let put = c .before .before .put-word in
-    let e = bytes-more (now (a .out)) (a .at) (l .k) (now (a .area)) (omega arith) in
-    (omega arith, put .kept .0 ∙ l .inv .1, cc)
+    let put = c .before .before .put-word in (
+      omega arith,
+      put .kept .0 ∙ l .inv .1,
+      put .ensures ∙ rw (l .inv .2) (bytes-more (now (a .out)) (a .at) (l .k) (now (a .area)) (omega arith)),
+    )
 
 returns : tie.Need-returns Inv-loop μ-loop
 returns c =

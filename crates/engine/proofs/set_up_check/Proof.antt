@@ -5,7 +5,7 @@ use native.Mathlib.Omega.{arith}
 use borrow.Author.Needs.{needs}
 use Rattle.cipher.specs.Answers.{cipherIs}
 use Rattle.cipher.specs.Numbers.{byCode}
-use Rattle.engine.proofs.Conditions.{set-up-unknown, set-up-key, set-up-iv, set-up-area, set-up-accepted}
+use Rattle.engine.proofs.Conditions.{set-up-unknown, set-up-key, set-up-iv, set-up-other-size, set-up-accepted}
 use Rattle.engine.proofs.Checks.{refused-sized, passed-sized}
 use Rattle.engine.proofs.set_up_check.Statement.{statement}
 use Rattle.engine.proofs.set_up_check.Tie as tie
@@ -42,7 +42,7 @@ returns-4 c =
     let a = known .before .before .before .args in
     let code : byCode (a .code) ≡ some _ = sym (known .before .before .by-code .ensures) ∙ ap cipherIs (known .known .given .1) in
     refused-sized _ _ 4 (λ e. omega arith) (c .refused4 .ensures)
-    (set-up-area _ _ _ _ _ code (keyed .if1 .left ∙ keyed .before .key-bytes .ensures .0) (ived .if2 .left ∙ ived .before .iv-bytes .ensures .0)
+    (set-up-other-size _ _ _ _ _ code (keyed .if1 .left ∙ keyed .before .key-bytes .ensures .0) (ived .if2 .left ∙ ived .before .iv-bytes .ensures .0)
     (λ e. c .before .if3 .taken (e ∙ sym (c .before .before .area-words .ensures .0)))) _ _ _
 
 returns-5 : tie.Need-returns-5

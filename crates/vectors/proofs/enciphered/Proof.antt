@@ -7,13 +7,13 @@ use Rattle.vectors.proofs.enciphered.Statement.{statement}
 use Rattle.vectors.proofs.enciphered.Tie as tie
 
 abbrev Inv-loop : tie.InvT-loop
-Inv-loop cipher area₀ blocks buffer₀ k₀ area buffer k = (length area ≡ length area₀) × (length buffer ≡ 64) × (k ≤ blocks)
+Inv-loop area₀ blocks h₀ buffer₀ k₀ area h buffer k = (length area ≡ length area₀) × (length buffer ≡ 64) × (k ≤ blocks)
 
 abbrev μ-loop : tie.MeasureT-loop
-μ-loop cipher area₀ blocks buffer₀ k₀ area buffer k = blocks - k
+μ-loop area₀ blocks h₀ buffer₀ k₀ area h buffer k = blocks - k
 
 pub enciphered-spec : {M : Type 1} → statement M
 enciphered-spec =
-    let a₁ = tie.spec Inv-loop μ-loop (λ c. search needs) (λ c. search needs) (λ c. search needs) in
-    let a₂ = a₁ (λ c κs. search needs) (λ c. search needs) (λ c. search needs) (λ c. search needs) in
-    tie.close (a₂ (λ c. search needs) (λ c. search needs))
+    let a₁ = tie.spec Inv-loop μ-loop (λ c. search needs) (λ c. search needs) (λ c κs. search needs) in
+    let a₂ = a₁ (λ c. search needs) (λ c. search needs) (λ c. search needs) (λ c. search needs) in
+    tie.close (a₂ (λ c. search needs))

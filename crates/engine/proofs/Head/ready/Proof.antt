@@ -5,7 +5,7 @@ use native.Mathlib.Omega.{arith}
 use borrow.Author.Needs.{needs}
 use Rattle.cipher.specs.Answers.{cipherIs}
 use Rattle.cipher.specs.Numbers.{byCode}
-use Rattle.engine.proofs.Conditions.{ready-unknown, ready-area, ready-position, ready-accepted}
+use Rattle.engine.proofs.Conditions.{ready-unknown, ready-other-size, ready-position, ready-accepted}
 use Rattle.engine.proofs.Checks.{refused-ready, passed-ready}
 use Rattle.engine.proofs.Head.ready.Statement.{statement}
 use Rattle.engine.proofs.Head.ready.Tie as tie
@@ -22,7 +22,7 @@ returns-2 c =
     let a = known .before .before .before .args in
     let code : byCode (a .self .code) ≡ some _ = sym (known .before .before .by-code .ensures) ∙ ap cipherIs (known .known .given .1) in
     refused-ready _ _ 4 (λ e. omega arith) (c .refused2 .ensures)
-    (ready-area _ _ _ _ code (λ e. c .before .if1 .taken (e ∙ sym (c .before .before .area-words .ensures .0)))) _ _
+    (ready-other-size _ _ _ _ code (λ e. c .before .if1 .taken (e ∙ sym (c .before .before .area-words .ensures .0)))) _ _
 
 returns-3 : tie.Need-returns-3
 returns-3 c =
