@@ -1,12 +1,9 @@
 // The engine: a head and its table area, and the seven calls of document 01. A call receives the head and hands back the next one beside its
 // answer. A refused call gives its number, and head, area and every lent byte keep their values.
 ghost use mathlib.Core.Path.{_≡_};
-ghost use Prim.Native.Nat.{_+_, _*_, _^_, _≤_, _<_};
+ghost use Prim.Native.Nat.{_≤_};
 ghost use lib.ListN.{length, drop, replicate};
-ghost use lib.Seq.{sets};
-ghost use Rattle.word.specs.Bytes as Bytes;
 ghost use Rattle.varint.specs.Number.{readNumber};
-ghost use Rattle.cipher.specs.Numbers.{areaLength};
 ghost use Rattle.engine.specs.Head as Heads;
 ghost use Rattle.checkpoint.specs.Checkpoint as Checkpoint;
 ghost use Rattle.engine.specs.Conditions as Conditions;
@@ -16,6 +13,7 @@ use cipher::Cipher;
 use cipher::Known;
 use varint::Read;
 
+// Document 01's head: cipher code and position. Heads are made by the constructors below.
 #[repr(C)]
 pub struct Head {
     pub code: u8,
@@ -264,6 +262,7 @@ impl Head {
     // The stream limit in bytes.
     pub const LIMIT: u64 = 67_108_864;
 
+    // A head of a cipher code at a position.
     pub fn at(code: u8, position: u64) -> Self
         ensures { λ r. ⌜ r ≡ Heads.headAt code position ⌝ }
     {

@@ -1,7 +1,6 @@
 // Words of 32 bits: sums and differences modulo 2^32, rotations, f1 and f2, and their bytes, least significant first.
 ghost use mathlib.Core.Path.{_≡_};
-ghost use Prim.Native.Nat.{_+_, _*_, _<_};
-ghost use lib.ListN.{length, drop, getD};
+ghost use Prim.Native.Nat.{_<_};
 ghost use Rattle.word.specs.Word as Word;
 ghost use Rattle.word.specs.Word.{_⊞_, _⊟_};
 ghost use Rattle.word.specs.Bytes as Bytes;
