@@ -359,8 +359,8 @@ impl Head {
                 head: self,
             };
         }
-        let code = self.code;
         let position = self.position;
+        let code = self.code;
         let end = end_of(position, distance);
         let unreached = end.refusal;
         if unreached != 0 {

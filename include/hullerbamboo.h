@@ -1,0 +1,128 @@
+/* Hullerbamboo: HC-128 and HC-256 with the way back, for C on x86-64.
+ *
+ * An engine is a head (cipher code, position) and a table area. Both are yours: the library keeps no state, allocates nothing, takes no lock and
+ * does no input or output, so every call is reentrant, and two engines may be used by two threads at once. From the C library it needs memcpy
+ * and memset.
+ *
+ * Every call returns 0 (HC_OK) or the number of its first refusal, in the order given at the call. A refused call changes nothing: the head, the
+ * area and every byte that you lent keep their values. Keys, IVs and keystream are bytes; an area is 32-bit words; a position counts bytes.
+ *
+ * Your duties, which C cannot check and the proofs take for granted:
+ *   - A pointer is not null and points to as many elements as the length after it says, aligned for its type, for the whole call.
+ *   - Of what you lend to one call (head, area, bytes, buffers), nothing that the call writes may overlap anything else. It writes to what is
+ *     not const. Inputs that are const may overlap one another.
+ *   - While a call runs, no other thread, interrupt or signal handler writes what you lent, or reads what the call writes.
+ *   - Keep a head with its own area. The library cannot tell that an area belongs to another head: it goes on with the tables that it gets.
+ *   - Never encipher two texts at the same positions under one key and IV. Loading a checkpoint twice, or moving back, brings you there.
+ *
+ * Secret: the key, the area, a checkpoint, and what hc_load returns. The area and a checkpoint are as secret as the key, since hc_recover finds
+ * the key in them. hc_load and hc_recover work on a copy of the tables on the stack, and no call wipes its stack.
+ *
+ * Nothing here is authenticated: hc_load refuses a damaged checkpoint whose tables have no key and IV, and that is all it can tell.
+ *
+ * "Stack" is the most that a call took below its return address in a measurement on x86-64, with memcpy and memset bound beforehand. */
+#ifndef HULLERBAMBOO_H
+#define HULLERBAMBOO_H
+
+#include <stddef.h>
+#include <stdint.h>
+
+#ifdef __cplusplus
+extern "C" {
+#endif
+
+/* Cipher codes. */
+#define HC_128 1
+#define HC_256 2
+
+/* Lengths. A key and an IV are 16 bytes each (HC-128) or 32 bytes each (HC-256). */
+#define HC_128_KEY_BYTES 16
+#define HC_256_KEY_BYTES 32
+#define HC_128_AREA_WORDS 1024
+#define HC_256_AREA_WORDS 2048
+
+/* The room that hc_write asks for; a checkpoint has this many bytes or up to three fewer. */
+#define HC_128_CHECKPOINT_BYTES 4101
+#define HC_256_CHECKPOINT_BYTES 8197
+
+/* The last position: no key and IV gives more than 64 MiB of keystream. */
+#define HC_LIMIT 67108864
+
+enum hc_refusal {
+    HC_OK = 0,
+    HC_BAD_CODE = 1,       /* the cipher code is neither 1 nor 2; a head before set up or load has code 0 */
+    HC_KEY_LENGTH = 2,     /* the key buffer has not the cipher's key length */
+    HC_IV_LENGTH = 3,      /* the IV buffer has not the cipher's IV length */
+    HC_AREA_LENGTH = 4,    /* the area has not the cipher's number of words */
+    HC_BAD_POSITION = 5,   /* the position is over HC_LIMIT */
+    HC_PAST_LIMIT = 6,     /* the call would end past HC_LIMIT */
+    HC_BEFORE_START = 7,   /* the move would end before position 0 */
+    HC_LITTLE_ROOM = 8,    /* fewer bytes lent than a checkpoint may need */
+    HC_ENDS_EARLY = 9,     /* the checkpoint is empty or ends inside its position */
+    HC_BAD_NUMBER = 10,    /* the checkpoint's position is longer than four bytes, or not in its shortest form */
+    HC_STRING_LENGTH = 11, /* the bytes after the position are not as many as the tables */
+    HC_NO_KEY = 12         /* no key and IV have these tables at this position */
+};
+
+/* A head. Start with { 0, 0 }; only the calls below change it. */
+struct hc_head {
+    uint8_t code;
+    uint64_t position;
+};
+
+/* What hc_write returns. length is 0 where the call is refused. */
+struct hc_length {
+    uint8_t refusal;
+    size_t length;
+};
+
+/* What hc_load returns: key and IV as 32-bit words, least significant byte first. HC-128 uses the first four of each and leaves the others 0. All
+ * are 0 where the call is refused. */
+struct hc_words {
+    uint8_t refusal;
+    uint32_t key[8];
+    uint32_t iv[8];
+};
+
+/* What hc_spent returns. count is 0 where the call is refused. */
+struct hc_count {
+    uint8_t refusal;
+    uint64_t count;
+};
+
+/* Set up: fills the area from a key and an IV, and the head becomes the given code at position 0, whatever it was.
+ * Refusals: 1, 2, 3, 4. Stack: 176 bytes. */
+uint8_t hc_set_up(struct hc_head *head, uint8_t code, const uint8_t *key, size_t key_bytes, const uint8_t *iv, size_t iv_bytes, uint32_t *area,
+                  size_t area_words);
+
+/* Cipher: replaces each lent byte by its exclusive or with the keystream byte, and advances by byte_count. The same call enciphers and deciphers.
+ * Any number of bytes may be given at a time, also 0, which changes nothing.
+ * Refusals: 1, 4, 5, 6. Stack: 176 bytes. */
+uint8_t hc_cipher(struct hc_head *head, uint32_t *area, size_t area_words, uint8_t *bytes, size_t byte_count);
+
+/* Move: takes tables and position forward, or back where distance is negative, by a number of bytes. The time grows with the distance.
+ * Refusals: 1, 4, 5, 7, 6. Stack: 112 bytes. */
+uint8_t hc_move(struct hc_head *head, uint32_t *area, size_t area_words, int64_t distance);
+
+/* Write: puts the checkpoint of head and area at the start of the lent bytes and returns its length; later bytes, area and head stay.
+ * Refusals: 1, 4, 5, 8. Stack: 192 bytes. */
+struct hc_length hc_write(struct hc_head *head, const uint32_t *area, size_t area_words, uint8_t *lent, size_t lent_bytes);
+
+/* Recover: fills the buffers with the key and the IV from which the tables came. Area and head stay. It takes every step back to set up.
+ * Refusals: 1, 4, 5, 2, 3, 12. Stack: 8,640 bytes. */
+uint8_t hc_recover(struct hc_head *head, const uint32_t *area, size_t area_words, uint8_t *key, size_t key_bytes, uint8_t *iv, size_t iv_bytes);
+
+/* Load: fills area and head from a checkpoint and returns its key and IV. The area must already have the size for the checkpoint's cipher. string is
+ * the checkpoint and no byte more. Before it accepts, it takes every step back to set up and checks the key and IV that it finds there.
+ * Refusals: 9, 1, 4, then for the position 10 or 9, then 5, 11, 12. Stack: 8,872 bytes. */
+struct hc_words hc_load(struct hc_head *head, uint32_t *area, size_t area_words, const uint8_t *string, size_t string_bytes);
+
+/* Spent: how many keystream bytes have been used, which is the position. The head stays.
+ * Refusals: 1, 5. Stack: 0 bytes. */
+struct hc_count hc_spent(struct hc_head *head);
+
+#ifdef __cplusplus
+}
+#endif
+
+#endif
