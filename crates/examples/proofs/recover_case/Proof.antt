@@ -1,0 +1,15 @@
+-- `examples::recover_case` meets its contract: the parts lie within the buffers. Assumes nothing.
+use native.Mathlib.Omega.{arith}
+use borrow.Author.Needs.{needs}
+use lib.ListN.{length-take}
+use Rattle.examples.proofs.recover_case.Statement.{statement}
+use Rattle.examples.proofs.recover_case.Tie as tie
+
+pub recover-case-spec : {M : Type 1} → statement M
+recover-case-spec =
+    let a₁ = tie.spec (λ c κs. search needs) (λ c κs. search needs) (λ c κs. search needs) (λ c. search needs) in
+    let a₂ = a₁ (λ c. simp length-take (omega arith)) (λ c. search needs) (λ c. simp length-take (omega arith)) in
+    let a₃ = a₂ (λ c. search needs) (λ c. simp length-take (omega arith)) (λ c. search needs) in
+    let a₄ = a₃ (λ c. simp length-take (omega arith)) (λ c κs. search needs) (λ c. search needs) in
+    let a₅ = a₄ (λ c κs. search needs) (λ c. search needs) (λ c. search needs) (λ c. search needs) in
+    tie.close (a₅ (λ c. search needs) (λ c. search needs))

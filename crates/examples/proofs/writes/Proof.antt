@@ -1,0 +1,14 @@
+-- `examples::writes` meets its contract: the parts lie within the bytes. Assumes nothing.
+use native.Mathlib.Omega.{arith}
+use borrow.Author.Needs.{needs}
+use lib.ListN.{length-take}
+use Rattle.examples.proofs.writes.Statement.{statement}
+use Rattle.examples.proofs.writes.Tie as tie
+
+pub writes-spec : {M : Type 1} → statement M
+writes-spec =
+    let a₁ = tie.spec (λ c κs. search needs) (λ c κs. search needs) (λ c κs. search needs) (λ c κs. search needs) in
+    let a₂ = a₁ (λ c. search needs) (λ c. simp length-take (omega arith)) (λ c κs. search needs) in
+    let a₃ = a₂ (λ c. search needs) (λ c. search needs) (λ c. search needs) (λ c κs. search needs) in
+    let a₄ = a₃ (λ c. search needs) (λ c. search needs) (λ c. search needs) (λ c κs. search needs) in
+    tie.close (a₄ (λ c κs. search needs) (λ c. search needs) (λ c. search needs))
