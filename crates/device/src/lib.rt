@@ -7,7 +7,7 @@ ghost use Rattle.varint.specs.Place.{placeIs};
 ghost use Rattle.checkpoint.specs.Checkpoint as Checkpoint;
 ghost use Rattle.engine.specs.Conditions as Conditions;
 ghost use Rattle.engine.specs.Calls as Calls;
-ghost use Rattle.engine.specs.Answers as Answers;
+ghost use Rattle.engine.specs.Checks as Checks;
 ghost use Rattle.device.specs.After as After;
 use engine::Head;
 use engine::Place;
@@ -234,7 +234,7 @@ fn no_place(refusal: u8) -> Place
 
 // The position of a checkpoint and the place after it, or load's refusal 9 or 10. Load reads the position by itself: no walk is on its path.
 pub fn position_of(string: &[u8]) -> Place
-    ensures { λ r. ⌜ Answers.placeIs (now (string .entry)) r ≡ Conditions.placed (readNumber Checkpoint.mostGroups (drop 1 (now (string .entry)))) ⌝ }
+    ensures { λ r. ⌜ Checks.placeIs (now (string .entry)) r ≡ Conditions.placed (readNumber Checkpoint.mostGroups (drop 1 (now (string .entry)))) ⌝ }
 {
     let read = number_after_code(string);
     match read {

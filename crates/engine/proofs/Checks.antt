@@ -9,7 +9,7 @@ use Rattle.cipher.specs.Numbers.{areaLength, keyLength, ivLength}
 use Rattle.engine.specs.declared.Checked.{Checked}
 use Rattle.engine.specs.Result.{Result, refused, accepted}
 use Rattle.engine.specs.Head.{limit}
-use Rattle.engine.specs.Answers.{outcome, checkedIs, Sized, Ready}
+use Rattle.engine.specs.Checks.{outcome, checkedIs, Sized, Ready}
 
 -- ---- what a caller learns
 

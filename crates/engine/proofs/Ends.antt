@@ -9,7 +9,7 @@ use Rattle.engine.specs.declared.Distance.the-variants.{Forward, Back}
 use Rattle.engine.specs.Result.{refused, accepted}
 use Rattle.engine.specs.Head.{limit}
 use Rattle.engine.specs.Conditions.{endOf}
-use Rattle.engine.specs.Answers.{endIs, distanceIs}
+use Rattle.engine.specs.Checks.{endIs, distanceIs}
 
 pub forward-is : (d : ℤ) (n : ℕ) → distanceIs d ≡ Forward n → d ≡ pos n
 forward-is (pos m) n e = ap pos (cc)

@@ -15,7 +15,7 @@ use Rattle.engine.specs.declared.Opening.{Opening}
 use Rattle.engine.specs.Result.{refused, accepted}
 use Rattle.engine.specs.Head.{limit}
 use Rattle.engine.specs.Conditions.{placed, firstByte, loadCheck}
-use Rattle.engine.specs.Answers.{OpeningIs}
+use Rattle.engine.specs.Checks.{OpeningIs}
 
 first-byte : (string : List ℕ) → (length string ≡ 0 → ⊥) → firstByte string ≡ some (getD string 0 0)
 first-byte [] h = absurd (h refl)

@@ -3,3 +3,4 @@ pub mod Head
 pub mod Conditions
 pub mod Calls
 pub mod Answers
+pub mod Checks

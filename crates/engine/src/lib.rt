@@ -9,6 +9,7 @@ ghost use Rattle.checkpoint.specs.Checkpoint as Checkpoint;
 ghost use Rattle.engine.specs.Conditions as Conditions;
 ghost use Rattle.engine.specs.Calls as Calls;
 ghost use Rattle.engine.specs.Answers as Answers;
+ghost use Rattle.engine.specs.Checks as Checks;
 use cipher::Cipher;
 use cipher::Known;
 use varint::Read;
@@ -74,7 +75,7 @@ fn refused(refusal: u8) -> Checked
 
 // The conditions of set up.
 fn set_up_check(code: u8, key: usize, iv: usize, size: usize) -> Checked
-    ensures { λ r. ⌜ (Answers.checkedIs r ≡ Conditions.setUpCheck code key iv size) × Answers.Sized r key iv size ⌝ }
+    ensures { λ r. ⌜ (Checks.checkedIs r ≡ Conditions.setUpCheck code key iv size) × Checks.Sized r key iv size ⌝ }
 {
     let known = cipher::by_code(code);
     let Known::Is(c) = known else {
@@ -99,7 +100,7 @@ pub enum Distance {
 }
 
 fn split_distance(distance: i64) -> Distance
-    ensures { λ r. ⌜ r ≡ Answers.distanceIs distance ⌝ }
+    ensures { λ r. ⌜ r ≡ Checks.distanceIs distance ⌝ }
 {
     if distance < 0 {
         Distance::Back((-1 - distance) as u64)
@@ -135,7 +136,7 @@ fn no_end(refusal: u8) -> End
 // Where a move by a distance ends, from a position within the limit.
 fn end_of(position: u64, distance: i64) -> End
     requires { ⌜ position ≤ Heads.limit ⌝ }
-    ensures { λ r. ⌜ (Answers.endIs r ≡ Conditions.endOf position distance) × (r .position ≤ Heads.limit) ⌝ }
+    ensures { λ r. ⌜ (Checks.endIs r ≡ Conditions.endOf position distance) × (r .position ≤ Heads.limit) ⌝ }
 {
     let d = split_distance(distance);
     match d {
@@ -176,7 +177,7 @@ fn no_place(refusal: u8) -> Place
 // Reads the position that follows the first byte.
 fn read_position(string: &[u8]) -> Place
     requires { ⌜ 1 ≤ length (now string) ⌝ }
-    ensures { λ r. ⌜ (Answers.placeIs (now (string .entry)) r ≡ Conditions.placed (readNumber Checkpoint.mostGroups (drop 1 (now (string .entry))))) × (r .next ≤ length (now (string .entry))) ⌝ }
+    ensures { λ r. ⌜ (Checks.placeIs (now (string .entry)) r ≡ Conditions.placed (readNumber Checkpoint.mostGroups (drop 1 (now (string .entry))))) × (r .next ≤ length (now (string .entry))) ⌝ }
 {
     let read = varint::read_number(string, 1, 4);
     match read {
@@ -211,7 +212,7 @@ fn closed(refusal: u8) -> Opening
 
 // The conditions of load up to 11.
 fn open_check(string: &[u8], size: usize) -> Opening
-    ensures { λ r. ⌜ Answers.OpeningIs (now (string .entry)) size r ⌝ }
+    ensures { λ r. ⌜ Checks.OpeningIs (now (string .entry)) size r ⌝ }
 {
     if string.len() == 0 {
         return closed(9);
@@ -281,7 +282,7 @@ impl Head {
 
     // The conditions 1, 4 and 5, which cipher, move, write and recover begin with.
     fn ready(self, size: usize) -> Checked
-        ensures { λ r. ⌜ (Answers.checkedIs r ≡ Conditions.ready (self .code) (self .position) size) × Answers.Ready r (self .position) size ⌝ }
+        ensures { λ r. ⌜ (Checks.checkedIs r ≡ Conditions.ready (self .code) (self .position) size) × Checks.Ready r (self .position) size ⌝ }
     {
         let code = self.code;
         let position = self.position;

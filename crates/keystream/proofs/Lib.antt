@@ -4,3 +4,4 @@ pub mod Xored
 pub mod Ciphered
 pub mod Whole
 pub mod Keystream
+pub mod Runs

@@ -3,8 +3,10 @@ ghost use mathlib.Core.Path.{_≡_};
 ghost use Prim.Native.Nat.{_+_, _-_, _/_, _%_, _*_, _^_, _≤_, _<_, min};
 ghost use lib.ListN.{length};
 ghost use Rattle.laws.specs.Iterate.{forward};
-ghost use Rattle.cipher.specs.Numbers.{areaLength};
+ghost use Rattle.cipher.specs.Numbers.{tableLength, areaLength};
+ghost use Rattle.tables.specs.Area.{changesP, startB};
 ghost use Rattle.tables.specs.Step as Step;
+ghost use Rattle.runs.specs.Run.{Run};
 ghost use Rattle.keystream.specs.Steps as Steps;
 ghost use Rattle.keystream.specs.Keystream as Keystream;
 ghost use Rattle.keystream.specs.Stores as Stores;
@@ -18,6 +20,26 @@ pub fn steps_at(p: usize) -> usize
     (p + 3) / 4
 }
 
+fn smaller(a: usize, b: usize) -> usize
+    ensures { λ r. ⌜ r ≡ min a b ⌝ }
+{
+    if a < b { a } else { b }
+}
+
+// Some of the steps i to i + n - 1, from the first on: a run, or one step; their number.
+fn advance_some(cipher: Cipher, area: &mut [u32], i: usize, n: usize) -> usize
+    requires { ⌜ (length (now area) ≡ areaLength cipher) × (0 < n) ⌝ }
+    ensures { λ r. ⌜ (0 < r) × (r ≤ n) × (now (area .exit) ≡ Steps.steps cipher (now (area .entry)) i r) ⌝ }
+{
+    let m = smaller(n, runs::run_from(cipher, i));
+    if m == 0 {
+        tables::step(cipher, area, i);
+        return 1;
+    }
+    runs::advance(cipher, area, i, m);
+    m
+}
+
 // The steps i to i + n - 1.
 pub fn advance(cipher: Cipher, area: &mut [u32], i: usize, n: usize)
     requires { ⌜ (length (now area) ≡ areaLength cipher) × (i + n < 2 ^ 64) ⌝ }
@@ -25,9 +47,22 @@ pub fn advance(cipher: Cipher, area: &mut [u32], i: usize, n: usize)
 {
     let mut k = 0;
     while k < n {
-        tables::step(cipher, area, i + k);
-        k += 1;
+        k += advance_some(cipher, area, i + k, n - k);
     }
+}
+
+// Some of the steps i to i + n - 1 undone, from the last on: a run, or one step; their number.
+fn retreat_some(cipher: Cipher, area: &mut [u32], i: usize, n: usize) -> usize
+    requires { ⌜ (length (now area) ≡ areaLength cipher) × (0 < n) × (i + n < 2 ^ 64) ⌝ }
+    ensures { λ r. ⌜ (0 < r) × (r ≤ n) × (now (area .exit) ≡ Steps.stepsBack cipher (now (area .entry)) (i + (n - r)) r) ⌝ }
+{
+    let m = smaller(n, runs::run_before(cipher, i + n));
+    if m == 0 {
+        tables::step_back(cipher, area, i + (n - 1));
+        return 1;
+    }
+    runs::retreat(cipher, area, i + (n - m), m);
+    m
 }
 
 // The steps i to i + n - 1 undone, last first.
@@ -37,8 +72,7 @@ pub fn retreat(cipher: Cipher, area: &mut [u32], i: usize, n: usize)
 {
     let mut k = n;
     while 0 < k {
-        k -= 1;
-        tables::step_back(cipher, area, i + k);
+        k -= retreat_some(cipher, area, i, k);
     }
 }
 
@@ -54,12 +88,6 @@ pub fn move_tables(cipher: Cipher, area: &mut [u32], p: usize, q: usize)
     } else {
         retreat(cipher, area, to, from - to);
     }
-}
-
-fn smaller(a: usize, b: usize) -> usize
-    ensures { λ r. ⌜ r ≡ min a b ⌝ }
-{
-    if a < b { a } else { b }
 }
 
 // The n bytes from place start on with the bytes of w from byte `from` on.
@@ -104,6 +132,76 @@ fn finish_word(cipher: Cipher, area: &[u32], p: usize, bytes: &mut [u8]) -> usiz
     n
 }
 
+// n words from place start on, each with the output of its step, from step k of HC-128 on, where B begins at b and the steps are a run.
+fn xor_run_128(area: &mut [u32], b: usize, k: usize, bytes: &mut [u8], start: usize, n: usize)
+    requires { ⌜ (length (now area) ≡ 1024) × Run 512 k n × (k < 1024) × (b ≡ startB 512 (changesP 512 k)) × (start + 4 * n ≤ length (now bytes)) ⌝ }
+    ensures { λ _. ⌜ (now (area .exit) ≡ Steps.steps Cipher.Hc128 (now (area .entry)) k n) × (now (bytes .exit) ≡ forward (Stores.xorWord Cipher.Hc128 (now (area .entry)) k start) (now (bytes .entry)) 0 n) ⌝ }
+{
+    let mut m = 0;
+    while m < n {
+        let w = runs::word_128(area, b, k + m);
+        xor_word(bytes, start + 4 * m, w);
+        m += 1;
+    }
+}
+
+// The same for HC-256.
+fn xor_run_256(area: &mut [u32], b: usize, k: usize, bytes: &mut [u8], start: usize, n: usize)
+    requires { ⌜ (length (now area) ≡ 2048) × Run 1024 k n × (k < 2048) × (b ≡ startB 1024 (changesP 1024 k)) × (start + 4 * n ≤ length (now bytes)) ⌝ }
+    ensures { λ _. ⌜ (now (area .exit) ≡ Steps.steps Cipher.Hc256 (now (area .entry)) k n) × (now (bytes .exit) ≡ forward (Stores.xorWord Cipher.Hc256 (now (area .entry)) k start) (now (bytes .entry)) 0 n) ⌝ }
+{
+    let mut m = 0;
+    while m < n {
+        let w = runs::word_256(area, b, k + m);
+        xor_word(bytes, start + 4 * m, w);
+        m += 1;
+    }
+}
+
+// n words from place start on, each with the output of its step, from step i on, where the steps are a run.
+fn xor_run(cipher: Cipher, area: &mut [u32], i: usize, bytes: &mut [u8], start: usize, n: usize)
+    requires { ⌜ (length (now area) ≡ areaLength cipher) × Run (tableLength cipher) i n × (start + 4 * n ≤ length (now bytes)) ⌝ }
+    ensures { λ _. ⌜ (now (area .exit) ≡ Steps.steps cipher (now (area .entry)) i n) × (now (bytes .exit) ≡ forward (Stores.xorWord cipher (now (area .entry)) i start) (now (bytes .entry)) 0 n) ⌝ }
+{
+    let b = runs::start_b(cipher, i);
+    let k = tables::place(cipher, i);
+    match cipher {
+        Cipher::Hc128 => xor_run_128(area, b, k, bytes, start, n),
+        Cipher::Hc256 => xor_run_256(area, b, k, bytes, start, n),
+    }
+}
+
+// The word at place start with the output of step i.
+fn xor_one(cipher: Cipher, area: &mut [u32], i: usize, bytes: &mut [u8], start: usize)
+    requires { ⌜ (length (now area) ≡ areaLength cipher) × (start + 4 ≤ length (now bytes)) ⌝ }
+    ensures { λ _. ⌜ (now (area .exit) ≡ Steps.steps cipher (now (area .entry)) i 1) × (now (bytes .exit) ≡ forward (Stores.xorWord cipher (now (area .entry)) i start) (now (bytes .entry)) 0 1) ⌝ }
+{
+    tables::step(cipher, area, i);
+    let w = tables::output(cipher, area, i);
+    xor_word(bytes, start, w);
+}
+
+// Some of n words from place start on, each with the output of its step, from step i on: those of a run, or one; their number.
+fn xor_some(
+    cipher: Cipher,
+    area: &mut [u32],
+    i: usize,
+    bytes: &mut [u8],
+    start: usize,
+    n: usize,
+) -> usize
+    requires { ⌜ (length (now area) ≡ areaLength cipher) × (0 < n) × (start + 4 * n ≤ length (now bytes)) ⌝ }
+    ensures { λ r. ⌜ (0 < r) × (r ≤ n) × (now (area .exit) ≡ Steps.steps cipher (now (area .entry)) i r) × (now (bytes .exit) ≡ forward (Stores.xorWord cipher (now (area .entry)) i start) (now (bytes .entry)) 0 r) ⌝ }
+{
+    let m = smaller(n, runs::run_from(cipher, i));
+    if m == 0 {
+        xor_one(cipher, area, i, bytes, start);
+        return 1;
+    }
+    xor_run(cipher, area, i, bytes, start, m);
+    m
+}
+
 // n words from place start on, each with the output of its step, from step i on.
 fn xor_words(cipher: Cipher, area: &mut [u32], i: usize, bytes: &mut [u8], start: usize, n: usize)
     requires { ⌜ (length (now area) ≡ areaLength cipher) × (i + n < 2 ^ 64) × (start + 4 * n ≤ length (now bytes)) ⌝ }
@@ -111,10 +209,7 @@ fn xor_words(cipher: Cipher, area: &mut [u32], i: usize, bytes: &mut [u8], start
 {
     let mut k = 0;
     while k < n {
-        tables::step(cipher, area, i + k);
-        let w = tables::output(cipher, area, i + k);
-        xor_word(bytes, start + 4 * k, w);
-        k += 1;
+        k += xor_some(cipher, area, i + k, bytes, start + 4 * k, n - k);
     }
 }
 

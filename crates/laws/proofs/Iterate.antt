@@ -70,3 +70,26 @@ module _ {A : Type 0} where
       let e : suc n ≡ 1 + n = omega arith in
       let o : suc i ≡ i + 1 = omega arith in
       rw (e, o, ← forward-add f s i 1 n, forward-one)
+
+  -- changes that are the same under other numbers
+  pub forward-same : (f g : A → ℕ → A) (s : A) (i m n : ℕ) → ((t : A) (k : ℕ) → f t (i + k) ≡ g t (m + k)) → forward f s i n ≡ forward g s m n
+  unfolding forward
+  forward-same f g s i m zero e = refl
+  forward-same f g s i m (suc n) e = rw (forward-same f g s i m n e) (e _ n)
+
+  pub backward-same : (g : A → ℕ → A) (s : A) (i m n : ℕ) → ((t : A) (k : ℕ) → g t (i + k) ≡ g t (m + k)) → backward g s i n ≡ backward g s m n
+  unfolding backward
+  backward-same g s i m zero e = refl
+  backward-same g s i m (suc n) e = rw (e s n) (backward-same g _ i m n e)
+
+  -- the last m of n + m changes undone, and then the others
+  pub backward-add : (g : A → ℕ → A) (s : A) (i n m : ℕ) → backward g (backward g s (i + n) m) i n ≡ backward g s i (n + m)
+  unfolding backward
+  backward-add g s i n zero = rw add-zero
+  backward-add g s i n (suc m) =
+      let e : i + n + m ≡ i + (n + m) = omega arith in
+      rw add-suc (backward-add g (g s (i + n + m)) i n m ∙ ap (λ (k : ℕ). backward g (g s k) i (n + m)) e)
+
+  pub backward-one : (g : A → ℕ → A) (s : A) (i : ℕ) → backward g s i 1 ≡ g s i
+  unfolding backward
+  backward-one g s i = rw add-zero

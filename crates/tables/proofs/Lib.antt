@@ -2,3 +2,4 @@ pub mod Places
 pub mod Kept
 pub mod Change
 pub mod Inverse
+pub mod Turns

@@ -35,7 +35,7 @@ pub fn indices_at(t: usize, i: usize) -> Indices
 }
 
 // g of HC-128 for P.
-fn g_p(x: u32, y: u32, z: u32) -> u32
+pub fn g_p(x: u32, y: u32, z: u32) -> u32
     ensures { λ r. ⌜ r ≡ Functions.g128 R x y z ⌝ }
 {
     word::sum(
@@ -45,7 +45,7 @@ fn g_p(x: u32, y: u32, z: u32) -> u32
 }
 
 // g of HC-128 for Q.
-fn g_q(x: u32, y: u32, z: u32) -> u32
+pub fn g_q(x: u32, y: u32, z: u32) -> u32
     ensures { λ r. ⌜ r ≡ Functions.g128 L x y z ⌝ }
 {
     word::sum(
@@ -76,6 +76,17 @@ pub fn feedback_q(area: &[u32], x: Indices) -> u32
     g_q(area[512 + minus3], area[512 + minus10], area[512 + plus1])
 }
 
+// g of HC-256, where the table that is looked up begins at b.
+pub fn g_256(area: &[u32], b: usize, x: u32, y: u32) -> u32
+    requires { ⌜ (length (now area) ≡ 2048) × (b ≤ 1024) ⌝ }
+    ensures { λ r. ⌜ r ≡ Functions.g256 (table (now (area .entry)) b) x y ⌝ }
+{
+    word::sum(
+        word::rotate_right(x, 10) ^ word::rotate_right(y, 23),
+        area[b + ((x ^ y) % 1024) as usize],
+    )
+}
+
 // The feedback of HC-256 in the table that begins at a, where the other begins at b.
 pub fn feedback_256(area: &[u32], a: usize, b: usize, x: Indices) -> u32
     requires { ⌜ (length (now area) ≡ 2048) × (a ≤ 1024) × (b ≤ 1024) × Within 1024 x ⌝ }
@@ -84,13 +95,10 @@ pub fn feedback_256(area: &[u32], a: usize, b: usize, x: Indices) -> u32
     let minus3 = x.minus3;
     let minus10 = x.minus10;
     let plus1 = x.plus1;
-    let y = area[a + minus3];
-    let z = area[a + plus1];
-    let g = word::sum(
-        word::rotate_right(y, 10) ^ word::rotate_right(z, 23),
-        area[b + ((y ^ z) % 1024) as usize],
-    );
-    word::sum(area[a + minus10], g)
+    word::sum(
+        area[a + minus10],
+        g_256(area, b, area[a + minus3], area[a + plus1]),
+    )
 }
 
 // h of HC-128, where the table that is looked up begins at b.

@@ -3,7 +3,7 @@ use mathlib.Core.Path.{_≡_, sym, _∙_}
 use borrow.Author.Needs.{needs}
 use mir.Syntax.{w64}
 use mir.ValLaws.{toZ-ofZ}
-use Rattle.engine.specs.Answers.{distanceIs}
+use Rattle.engine.specs.Checks.{distanceIs}
 use Rattle.engine.proofs.Ends.{reaches-on, passes-limit, below-zero, reaches-back}
 use Rattle.engine.proofs.end_of.Statement.{statement}
 use Rattle.engine.proofs.end_of.Tie as tie

@@ -11,7 +11,7 @@ use lib.IntN.{ℤ, pos, negsuc, natAbs, _-ℤ_}
 use lib.Dec.{T}
 use lib.Signed.{ltZ, mag, nonNeg}
 use Rattle.engine.specs.declared.Distance.the-variants.{Forward, Back}
-use Rattle.engine.specs.Answers.{distanceIs}
+use Rattle.engine.specs.Checks.{distanceIs}
 use Rattle.engine.proofs.split_distance.Statement.{statement}
 use Rattle.engine.proofs.split_distance.Tie as tie
 

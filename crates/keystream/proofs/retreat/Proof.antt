@@ -1,7 +1,7 @@
 -- `keystream::retreat` meets its contract. The loop's invariant: the steps from i + k on are undone. Assumes nothing.
 use mathlib.Core.Path.{refl}
 use borrow.Author.Needs.{needs}
-use Rattle.laws.proofs.Loops.{Backward, backward-starts, backward-turns, backward-ends}
+use Rattle.laws.proofs.Loops.{Backward, backward-starts, backward-turns-by, backward-ends}
 use Rattle.tables.specs.Step.{stepBack}
 use Rattle.keystream.proofs.retreat.Statement.{statement}
 use Rattle.keystream.proofs.retreat.Tie as tie
@@ -14,12 +14,11 @@ abbrev μ-loop : tie.MeasureT-loop
 
 loop-again : tie.Need-loop-again Inv-loop μ-loop
 loop-again c =
-    let turn = c .before .before .before .before in
-    backward-turns _ _ _ _ _ (turn .before .loop .inv) (turn .loop-test .taken) refl
-    (c .before .before .step-back .ensures) (c .before .before .step-back .kept .1 .0)
+    let undone = c .before .before .retreat-some in
+    backward-turns-by _ _ _ _ _ _ (c .before .before .before .before .before .loop .inv) (undone .ensures .1) refl (undone .ensures .2) (undone .kept .1 .0)
 
 pub retreat-spec : {M : Type 1} → statement M
 retreat-spec =
-    let a₁ = tie.spec Inv-loop μ-loop (λ c. backward-starts _ _ _ _) (λ c. search needs) (λ c. search needs) in
-    let a₂ = a₁ (λ c κs. search needs) (λ c. search needs) loop-again (λ c. c .before .loop .inv .sized) in
+    let a₁ = tie.spec Inv-loop μ-loop (λ c. backward-starts _ _ _ _) (λ c κs. search needs) (λ c. search needs) in
+    let a₂ = a₁ (λ c. search needs) loop-again (λ c. c .before .loop .inv .sized) in
     tie.close (a₂ (λ c. backward-ends _ _ _ _ (c .before .loop .inv) (c .loop-test .left)))

@@ -1,0 +1,80 @@
+/* The archive libdevice.a, called as include/hullerbamboo.h says. */
+#include "hullerbamboo.h"
+#include "implementation.h"
+
+#include <stdlib.h>
+
+struct state {
+    struct hc_head head;
+    uint8_t code;
+    size_t area_words;
+    size_t key_bytes;
+    uint32_t area[HC_256_AREA_WORDS];
+};
+
+static void *create(int code)
+{
+    struct state *s = calloc(1, sizeof *s);
+    if (s == NULL)
+        abort();
+    s->code = (uint8_t)code;
+    s->area_words = code == HC_128 ? HC_128_AREA_WORDS : HC_256_AREA_WORDS;
+    s->key_bytes = code == HC_128 ? HC_128_KEY_BYTES : HC_256_KEY_BYTES;
+    return s;
+}
+
+/* The benchmark gives no call that the archive would refuse. */
+static void expect_accepted(int refusal)
+{
+    if (refusal != HC_OK)
+        abort();
+}
+
+static void set_up(void *state, const uint8_t *key, const uint8_t *iv, size_t times)
+{
+    struct state *s = state;
+    for (size_t i = 0; i < times; i++)
+        expect_accepted(hc_set_up(&s->head, s->code, key, s->key_bytes, iv, s->key_bytes, s->area, s->area_words));
+}
+
+static void cipher(void *state, uint8_t *bytes, size_t n, size_t calls)
+{
+    struct state *s = state;
+    for (size_t i = 0; i < calls; i++, bytes += n)
+        expect_accepted(hc_cipher(&s->head, s->area, s->area_words, bytes, n));
+}
+
+static void move(void *state, int64_t distance)
+{
+    struct state *s = state;
+    expect_accepted(hc_move(&s->head, s->area, s->area_words, distance));
+}
+
+static int recover(void *state, uint8_t *key, uint8_t *iv)
+{
+    struct state *s = state;
+    return hc_recover(&s->head, s->area, s->area_words, key, s->key_bytes, iv, s->key_bytes);
+}
+
+static size_t write_checkpoint(void *state, uint8_t *checkpoint, size_t times)
+{
+    struct state *s = state;
+    struct hc_length written = { 0, 0 };
+    for (size_t i = 0; i < times; i++)
+        written = hc_write(&s->head, s->area, s->area_words, checkpoint, CHECKPOINT_ROOM);
+    expect_accepted(written.refusal);
+    return written.length;
+}
+
+static int load(void *state, const uint8_t *checkpoint, size_t length, size_t times)
+{
+    struct state *s = state;
+    for (size_t i = 0; i < times; i++) {
+        struct hc_words words = hc_load(&s->head, s->area, s->area_words, checkpoint, length);
+        if (words.refusal != HC_OK)
+            return words.refusal;
+    }
+    return 0;
+}
+
+const struct implementation archive = { "archive", create, set_up, cipher, 1, move, recover, write_checkpoint, load };

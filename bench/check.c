@@ -1,0 +1,88 @@
+/* The implementations compared with the first one before anything is timed. */
+#include "check.h"
+
+#include <stdio.h>
+#include <stdlib.h>
+#include <string.h>
+
+#define STREAM 65536
+
+static uint8_t key[32], iv[32];
+static uint8_t expected[STREAM], found[STREAM];
+static uint8_t expected_checkpoint[CHECKPOINT_ROOM], found_checkpoint[CHECKPOINT_ROOM];
+
+static void stop(const struct implementation *it, int code, const char *what)
+{
+    printf("%s differs in %s of HC-%d; nothing was timed.\n", it->title, what, 128 * code);
+    exit(1);
+}
+
+/* The keystream in calls of n bytes, the last bytes that n does not divide left 0. */
+static void keystream(const struct implementation *it, int code, size_t n, uint8_t *bytes)
+{
+    void *state = it->create(code);
+    memset(bytes, 0, STREAM);
+    it->set_up(state, key, iv, 1);
+    it->cipher(state, bytes, n, STREAM / n);
+}
+
+static void check_keystream(const struct implementation *const *all, size_t count, int code)
+{
+    static const size_t lengths[] = { STREAM, 64, 16, 3, 1 };
+    for (size_t l = 0; l < sizeof lengths / sizeof *lengths; l++) {
+        size_t n = lengths[l];
+        keystream(all[0], code, n, expected);
+        for (size_t k = 1; k < count; k++) {
+            if (n < all[k]->least_call)
+                continue;
+            keystream(all[k], code, n, found);
+            if (memcmp(expected, found, STREAM) != 0)
+                stop(all[k], code, "the keystream");
+        }
+    }
+}
+
+/* The checkpoint after a move to p, and after recover, which must give the key and the IV, and load, which must accept it. */
+static size_t checkpoint_at(const struct implementation *it, int code, int64_t p, uint8_t *checkpoint)
+{
+    uint8_t key_found[32] = { 0 }, iv_found[32] = { 0 };
+    size_t key_bytes = code == 1 ? 16 : 32;
+    void *state = it->create(code);
+    it->set_up(state, key, iv, 1);
+    it->move(state, p + 5000);
+    it->move(state, -5000);
+    if (it->recover(state, key_found, iv_found) != 0 || memcmp(key, key_found, key_bytes) != 0 || memcmp(iv, iv_found, key_bytes) != 0)
+        stop(it, code, "the recovered key and IV");
+    size_t length = it->write(state, checkpoint, 1);
+    if (it->load(state, checkpoint, length, 1) != 0)
+        stop(it, code, "loading its own checkpoint");
+    length = it->write(state, checkpoint, 1);
+    return length;
+}
+
+static void check_checkpoint(const struct implementation *const *all, size_t count, int code)
+{
+    static const int64_t positions[] = { 0, 1, 4097, 100000, LIMIT - 5000 };
+    for (size_t p = 0; p < sizeof positions / sizeof *positions; p++) {
+        size_t length = checkpoint_at(all[0], code, positions[p], expected_checkpoint);
+        for (size_t k = 1; k < count; k++) {
+            if (all[k]->write == NULL)
+                continue;
+            if (checkpoint_at(all[k], code, positions[p], found_checkpoint) != length ||
+                memcmp(expected_checkpoint, found_checkpoint, length) != 0)
+                stop(all[k], code, "the checkpoint");
+        }
+    }
+}
+
+void check_all_agree(const struct implementation *const *all, size_t count)
+{
+    for (size_t i = 0; i < 32; i++) {
+        key[i] = (uint8_t)(17 * i + 3);
+        iv[i] = (uint8_t)(29 * i + 101);
+    }
+    for (int code = 1; code <= 2; code++) {
+        check_keystream(all, count, code);
+        check_checkpoint(all, count, code);
+    }
+}

@@ -1,0 +1,204 @@
+/* The timing: in every round each implementation is timed once, in turn, so that a change of the machine's speed reaches all of them. */
+#include "measure.h"
+
+#include <stdio.h>
+#include <stdlib.h>
+#include <time.h>
+
+#define REPETITIONS 7
+#define SMALL_POSITION 1001
+
+const struct row_about about[ROWS] = {
+    [BULK_64_KIB] = { "bulk, 64 KiB buffer", MIB_PER_SECOND, 20 },
+    [BULK_16_MIB] = { "bulk, 16 MiB buffer", MIB_PER_SECOND, 4 },
+    [CALL_1] = { "call of 1 byte", NANOSECONDS, 10 },
+    [CALL_3] = { "call of 3 bytes", NANOSECONDS, 10 },
+    [CALL_16] = { "call of 16 bytes", NANOSECONDS, 10 },
+    [CALL_64] = { "call of 64 bytes", NANOSECONDS, 10 },
+    [SET_UP] = { "set-up", MICROSECONDS, 20 },
+    [FORWARD] = { "move forward, 0 to the limit", MILLISECONDS, 2 },
+    [RECOVER] = { "recover at the limit", MILLISECONDS, 1 },
+    [WRITE] = { "write", MICROSECONDS, 20 },
+    [LOAD_LIMIT] = { "load at the limit", MILLISECONDS, 1 },
+    [BACK] = { "move back, the limit to 0", MILLISECONDS, 2 },
+    [LOAD_SMALL] = { "load at position 1,001", MICROSECONDS, 20 },
+};
+
+double seconds[ROWS][2][MOST_COLUMNS];
+
+/* One implementation with a state of its own and the position that the state is at, or -1 before set-up. */
+struct engine {
+    const struct implementation *it;
+    void *state;
+    int64_t position;
+};
+
+static struct engine engines[2][MOST_COLUMNS];
+static uint8_t key[32] = { 1, 2, 3 }, iv[32] = { 4, 5, 6 };
+static uint8_t buffer[16777216];
+static uint8_t checkpoint[CHECKPOINT_ROOM];
+
+/* The processor time of this process, which other work on the machine does not add to. */
+static double now(void)
+{
+    struct timespec t;
+    clock_gettime(CLOCK_PROCESS_CPUTIME_ID, &t);
+    return (double)t.tv_sec + 1e-9 * (double)t.tv_nsec;
+}
+
+size_t bulk_bytes(enum row row)
+{
+    return row == BULK_16_MIB ? sizeof buffer : 65536;
+}
+
+/* The bytes of one call in a row that enciphers. */
+static size_t call_bytes(enum row row)
+{
+    switch (row) {
+    case CALL_1: return 1;
+    case CALL_3: return 3;
+    case CALL_16: return 16;
+    case CALL_64: return 64;
+    default: return bulk_bytes(row);
+    }
+}
+
+static int has(const struct implementation *it, enum row row)
+{
+    if (it == NULL)
+        return 0;
+    switch (row) {
+    case SET_UP: return it->set_up != NULL;
+    case FORWARD:
+    case BACK: return it->move != NULL;
+    case RECOVER: return it->recover != NULL;
+    case WRITE: return it->write != NULL;
+    case LOAD_LIMIT:
+    case LOAD_SMALL: return it->load != NULL;
+    default: return call_bytes(row) >= it->least_call;
+    }
+}
+
+/* Brings the engine to position p, which is not timed. */
+static void bring_to(struct engine *e, int64_t p)
+{
+    if (e->position == p)
+        return;
+    e->it->set_up(e->state, key, iv, 1);
+    if (p > 0)
+        e->it->move(e->state, p);
+    e->position = p;
+}
+
+static double time_cipher(struct engine *e, size_t n)
+{
+    size_t calls = n > 65536 ? 1 : 65536 / n;
+    bring_to(e, 0);
+    double start = now();
+    e->it->cipher(e->state, buffer, n, calls);
+    double end = now();
+    e->position = (int64_t)(n * calls);
+    return (end - start) / (double)calls;
+}
+
+static double time_set_up(struct engine *e)
+{
+    size_t times = 16;
+    double start = now();
+    e->it->set_up(e->state, key, iv, times);
+    double end = now();
+    e->position = 0;
+    return (end - start) / (double)times;
+}
+
+static double time_move(struct engine *e, int64_t from, int64_t to)
+{
+    bring_to(e, from);
+    double start = now();
+    e->it->move(e->state, to - from);
+    double end = now();
+    e->position = to;
+    return end - start;
+}
+
+static double time_recover(struct engine *e)
+{
+    uint8_t key_found[32], iv_found[32];
+    bring_to(e, LIMIT);
+    double start = now();
+    if (e->it->recover(e->state, key_found, iv_found) != 0)
+        abort();
+    return now() - start;
+}
+
+static double time_write(struct engine *e)
+{
+    size_t times = 256;
+    bring_to(e, LIMIT);
+    double start = now();
+    e->it->write(e->state, checkpoint, times);
+    return (now() - start) / (double)times;
+}
+
+static double time_load(struct engine *e, int64_t p, size_t times)
+{
+    bring_to(e, p);
+    size_t length = e->it->write(e->state, checkpoint, 1);
+    double start = now();
+    if (e->it->load(e->state, checkpoint, length, times) != 0)
+        abort();
+    return (now() - start) / (double)times;
+}
+
+static double time_row(struct engine *e, enum row row)
+{
+    switch (row) {
+    case SET_UP: return time_set_up(e);
+    case FORWARD: return time_move(e, 0, LIMIT);
+    case RECOVER: return time_recover(e);
+    case WRITE: return time_write(e);
+    case LOAD_LIMIT: return time_load(e, LIMIT, 1);
+    case BACK: return time_move(e, LIMIT, 0);
+    case LOAD_SMALL: return time_load(e, SMALL_POSITION, 16);
+    default: return time_cipher(e, call_bytes(row));
+    }
+}
+
+/* Times each implementation once, beginning with another one in each round. */
+static void measure_round(enum row row, int cipher, size_t count, size_t first)
+{
+    for (size_t k = 0; k < count; k++) {
+        size_t c = (first + k) % count;
+        struct engine *e = &engines[cipher][c];
+        if (!has(e->it, row))
+            continue;
+        double t = time_row(e, row);
+        double *least = &seconds[row][cipher][c];
+        if (*least == 0 || t < *least)
+            *least = t;
+    }
+}
+
+static void create_engines(const struct implementation *const *columns, size_t count)
+{
+    for (int cipher = 0; cipher < 2; cipher++)
+        for (size_t c = 0; c < count; c++) {
+            struct engine *e = &engines[cipher][c];
+            e->it = columns[c];
+            e->position = -1;
+            if (e->it != NULL)
+                e->state = e->it->create(cipher + 1);
+        }
+}
+
+void measure_all(const struct implementation *const *columns, size_t count)
+{
+    create_engines(columns, count);
+    for (int repetition = 0; repetition < REPETITIONS; repetition++) {
+        fprintf(stderr, "repetition %d of %d\n", repetition + 1, REPETITIONS);
+        for (int row = 0; row < ROWS; row++)
+            for (int cipher = 0; cipher < 2; cipher++)
+                for (int round = 0; round < about[row].rounds; round++)
+                    measure_round((enum row)row, cipher, count, (size_t)(repetition + round));
+    }
+}

@@ -1,0 +1,61 @@
+/* The plain C as the benchmark calls it; COLUMN and TITLE tell apart the compilers that it is compiled with. */
+#include "implementation.h"
+#include "plain.h"
+
+#include <stdlib.h>
+
+static void expect_accepted(int result)
+{
+    if (result != 0)
+        abort();
+}
+
+static void *create(int code)
+{
+    struct plain *s = calloc(1, sizeof *s);
+    if (s == NULL)
+        abort();
+    s->code = code;
+    return s;
+}
+
+static void set_up(void *state, const uint8_t *key, const uint8_t *iv, size_t times)
+{
+    struct plain *s = state;
+    for (size_t i = 0; i < times; i++)
+        plain_set_up(s, s->code, key, iv);
+}
+
+static void cipher(void *state, uint8_t *bytes, size_t n, size_t calls)
+{
+    for (size_t i = 0; i < calls; i++, bytes += n)
+        expect_accepted(plain_cipher(state, bytes, n));
+}
+
+static void move(void *state, int64_t distance)
+{
+    expect_accepted(plain_move(state, distance));
+}
+
+static int recover(void *state, uint8_t *key, uint8_t *iv)
+{
+    return plain_recover(state, key, iv);
+}
+
+static size_t write_checkpoint(void *state, uint8_t *checkpoint, size_t times)
+{
+    size_t length = 0;
+    for (size_t i = 0; i < times; i++)
+        length = plain_write(state, checkpoint);
+    return length;
+}
+
+static int load(void *state, const uint8_t *checkpoint, size_t length, size_t times)
+{
+    for (size_t i = 0; i < times; i++)
+        if (plain_load(state, checkpoint, length) != 0)
+            return -1;
+    return 0;
+}
+
+const struct implementation COLUMN = { TITLE, create, set_up, cipher, 1, move, recover, write_checkpoint, load };

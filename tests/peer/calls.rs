@@ -1,0 +1,222 @@
+//! The seven calls as document 01 states them: the refusals in their order, then what an accepted call does.
+
+use crate::ciphers::{self, Cipher};
+
+/// The stream limit in bytes.
+pub const LIMIT: u64 = 67_108_864;
+
+/// A head.
+#[derive(Clone, Copy, PartialEq, Debug)]
+pub struct Head {
+    pub code: u8,
+    pub position: u64,
+}
+
+/// A fresh head.
+pub const FRESH: Head = Head { code: 0, position: 0 };
+
+/// The steps that the tables have taken at a position.
+pub fn steps_at(position: u64) -> u64 {
+    if position % 4 == 0 {
+        position / 4
+    } else {
+        position / 4 + 1
+    }
+}
+
+/// The bytes that a write asks for.
+pub fn room(cipher: Cipher) -> usize {
+    match cipher {
+        Cipher::Hc128 => 4101,
+        Cipher::Hc256 => 8197,
+    }
+}
+
+/// Refusal 1.
+fn code_is_good(code: u8) -> Result<Cipher, u8> {
+    Cipher::of_code(code).ok_or(1)
+}
+
+/// Refusals 2 and 3.
+fn lengths_are_good(cipher: Cipher, key: &[u8], iv: &[u8]) -> Result<(), u8> {
+    if key.len() != cipher.key_bytes() {
+        return Err(2);
+    }
+    if iv.len() != cipher.key_bytes() {
+        return Err(3);
+    }
+    Ok(())
+}
+
+/// Refusal 4.
+fn area_is_good(cipher: Cipher, area_words: usize) -> Result<(), u8> {
+    if area_words != cipher.area_words() {
+        return Err(4);
+    }
+    Ok(())
+}
+
+/// Refusal 5.
+fn position_is_good(position: u64) -> Result<(), u8> {
+    if position > LIMIT {
+        return Err(5);
+    }
+    Ok(())
+}
+
+/// Refusals 1, 4 and 5, with which cipher, move, write and recover begin.
+fn engine_is_good(head: &Head, area: &[u32]) -> Result<Cipher, u8> {
+    let cipher = code_is_good(head.code)?;
+    area_is_good(cipher, area.len())?;
+    position_is_good(head.position)?;
+    Ok(cipher)
+}
+
+/// Set up.
+pub fn set_up(head: &mut Head, code: u8, key: &[u8], iv: &[u8], area: &mut [u32]) -> Result<(), u8> {
+    let cipher = code_is_good(code)?;
+    lengths_are_good(cipher, key, iv)?;
+    area_is_good(cipher, area.len())?;
+    area.copy_from_slice(&ciphers::set_up(cipher, &ciphers::words_of_bytes(key), &ciphers::words_of_bytes(iv)));
+    *head = Head { code, position: 0 };
+    Ok(())
+}
+
+/// Cipher, one byte at a time.
+pub fn cipher(head: &mut Head, area: &mut [u32], bytes: &mut [u8]) -> Result<(), u8> {
+    let cipher = engine_is_good(head, area)?;
+    if head.position as u128 + bytes.len() as u128 > LIMIT as u128 {
+        return Err(6);
+    }
+    for byte in bytes {
+        let number = head.position / 4;
+        if head.position % 4 == 0 {
+            ciphers::step(cipher, area, number);
+        }
+        *byte ^= ciphers::output(cipher, area, number).to_le_bytes()[(head.position % 4) as usize];
+        head.position += 1;
+    }
+    Ok(())
+}
+
+/// Move.
+pub fn move_by(head: &mut Head, area: &mut [u32], distance: i64) -> Result<(), u8> {
+    let cipher = engine_is_good(head, area)?;
+    let end = head.position as i128 + distance as i128;
+    if end < 0 {
+        return Err(7);
+    }
+    if end > LIMIT as i128 {
+        return Err(6);
+    }
+    let end = end as u64;
+    ciphers::steps_forward(cipher, area, steps_at(head.position), steps_at(end));
+    ciphers::steps_back(cipher, area, steps_at(head.position), steps_at(end));
+    head.position = end;
+    Ok(())
+}
+
+/// A number as groups of seven bits, lowest first.
+pub fn groups_of(number: u64) -> Vec<u8> {
+    let mut groups = vec![(number % 128) as u8];
+    let mut left = number / 128;
+    while left != 0 {
+        *groups.last_mut().unwrap() |= 0x80;
+        groups.push((left % 128) as u8);
+        left /= 128;
+    }
+    groups
+}
+
+/// The checkpoint of a code, a position and tables.
+pub fn checkpoint(code: u8, position: u64, tables: &[u32]) -> Vec<u8> {
+    let mut string = vec![code];
+    string.extend(groups_of(position));
+    string.extend(ciphers::bytes_of_words(tables));
+    string
+}
+
+/// Write.
+pub fn write(head: &Head, area: &[u32], lent: &mut [u8]) -> Result<usize, u8> {
+    let cipher = engine_is_good(head, area)?;
+    if lent.len() < room(cipher) {
+        return Err(8);
+    }
+    let string = checkpoint(head.code, head.position, area);
+    lent[..string.len()].copy_from_slice(&string);
+    Ok(string.len())
+}
+
+/// The key and IV whose tables these are at this position, shown by set-up and all steps again, or refusal 12.
+fn key_and_iv_of(cipher: Cipher, position: u64, tables: &[u32]) -> Result<(Vec<u32>, Vec<u32>), u8> {
+    let steps = steps_at(position);
+    let mut back = tables.to_vec();
+    ciphers::steps_back(cipher, &mut back, steps, 0);
+    ciphers::last_pass_back(cipher, &mut back);
+    let first = ciphers::first_words_of_tables(cipher, &back);
+    let (key, iv) = ciphers::key_and_iv_of_first_words(cipher, &first);
+    let mut again = ciphers::set_up(cipher, &key, &iv);
+    ciphers::steps_forward(cipher, &mut again, 0, steps);
+    if again != tables {
+        return Err(12);
+    }
+    Ok((key, iv))
+}
+
+/// Recover.
+pub fn recover(head: &Head, area: &[u32], key: &mut [u8], iv: &mut [u8]) -> Result<(), u8> {
+    let cipher = engine_is_good(head, area)?;
+    lengths_are_good(cipher, key, iv)?;
+    let (key_words, iv_words) = key_and_iv_of(cipher, head.position, area)?;
+    key.copy_from_slice(&ciphers::bytes_of_words(&key_words));
+    iv.copy_from_slice(&ciphers::bytes_of_words(&iv_words));
+    Ok(())
+}
+
+/// The cipher, position and table bytes of a string that load refuses, if at all, with 12.
+pub fn parts(area_words: usize, string: &[u8]) -> Result<(Cipher, u64, &[u8]), u8> {
+    if string.is_empty() {
+        return Err(9);
+    }
+    let cipher = code_is_good(string[0])?;
+    area_is_good(cipher, area_words)?;
+    let rest = &string[1..];
+    let announces = |byte: &u8| *byte >= 0x80;
+    if rest.len() >= 4 && rest[..4].iter().all(announces) {
+        return Err(10);
+    }
+    if rest.iter().all(announces) {
+        return Err(9);
+    }
+    let groups = 1 + rest.iter().position(|byte| !announces(byte)).unwrap();
+    if groups >= 2 && rest[groups - 1] == 0 {
+        return Err(10);
+    }
+    let position = (0..groups).map(|k| (rest[k] % 128) as u64 * 128u64.pow(k as u32)).sum();
+    position_is_good(position)?;
+    let tables = &rest[groups..];
+    if tables.len() != 4 * cipher.area_words() {
+        return Err(11);
+    }
+    Ok((cipher, position, tables))
+}
+
+/// Load, which returns the eight key words and the eight IV words.
+pub fn load(head: &mut Head, area: &mut [u32], string: &[u8]) -> Result<([u32; 8], [u32; 8]), u8> {
+    let (cipher, position, table_bytes) = parts(area.len(), string)?;
+    let tables = ciphers::words_of_bytes(table_bytes);
+    let (key, iv) = key_and_iv_of(cipher, position, &tables)?;
+    let mut words = ([0; 8], [0; 8]);
+    words.0[..key.len()].copy_from_slice(&key);
+    words.1[..iv.len()].copy_from_slice(&iv);
+    area.copy_from_slice(&tables);
+    *head = Head { code: cipher.code(), position };
+    Ok(words)
+}
+
+/// Spent.
+pub fn spent(head: &Head) -> Result<u64, u8> {
+    code_is_good(head.code)?;
+    position_is_good(head.position)?;
+    Ok(head.position)
+}

@@ -1,0 +1,370 @@
+//! Random lists of calls with valid and damaged arguments.
+
+use crate::both::Both;
+use crate::calls::{self, Head, FRESH, LIMIT};
+use crate::ciphers::{self, Cipher};
+use crate::random::Random;
+use crate::tally::Tally;
+
+/// The words of memory for areas, more than the larger cipher needs.
+const MEMORY_WORDS: usize = 2112;
+
+/// The farthest way in bytes that a call may go without using up one of the list's far calls.
+const NEAR: u64 = 400_000;
+
+/// One list in so many has far calls, which take every step to the limit or back.
+const FAR_LISTS: u64 = 200;
+
+/// How many far calls such a list has.
+const FAR_CALLS: u64 = 4;
+
+struct List<'t> {
+    random: Random,
+    both: Both<'t>,
+    checkpoints: Vec<Vec<u8>>,
+    far_calls: u64,
+}
+
+/// Makes the calls of one list; the result is the text of the first difference.
+pub fn run(seed: u64, number: u64, tally: &mut Tally) -> Result<(), String> {
+    let mut random = Random::new(seed, number);
+    let is_far = number % FAR_LISTS == FAR_LISTS / 2;
+    let head = if is_far { FRESH } else { first_head(&mut random) };
+    let area = if random.once_in(8) { vec![0; MEMORY_WORDS] } else { random.words(MEMORY_WORDS) };
+    let checkpoints = vec![other_checkpoint(&mut random, Cipher::Hc128), other_checkpoint(&mut random, Cipher::Hc256)];
+    let both = Both::new(head, area, tally);
+    let mut list = List { random, both, checkpoints, far_calls: if is_far { FAR_CALLS } else { 0 } };
+    if is_far {
+        list.go_far()?;
+    } else if head == FRESH && !list.random.once_in(4) {
+        list.good_set_up()?;
+    }
+    let calls = list.random.between(10, 50);
+    let large_cipher = list.random.below(calls);
+    for number in 0..calls {
+        if number == large_cipher {
+            let length = list.random.between(10_000, 70_000) as usize;
+            list.cipher(length)?;
+        } else {
+            list.any_call()?;
+        }
+    }
+    Ok(())
+}
+
+/// A fresh head or a made-up one.
+fn first_head(random: &mut Random) -> Head {
+    let code = random.pick(&[1, 2]);
+    match random.below(16) {
+        0..=7 => FRESH,
+        8..=9 => Head { code, position: random.below(20_000) },
+        10..=12 => Head { code, position: LIMIT - random.below(9_000) },
+        13 => Head { code, position: LIMIT - random.below(5) },
+        14 => Head { code, position: random.pick(&[LIMIT + 1, LIMIT + 2, 2 * LIMIT, 1 << 32, 1 << 63, u64::MAX - 3, u64::MAX]) },
+        _ => Head { code: random.pick(&[0, 3, 255]), position: random.pick(&[0, 1, 5000, LIMIT, LIMIT + 1, u64::MAX]) },
+    }
+}
+
+/// A checkpoint of a random key and IV at a small position.
+fn other_checkpoint(random: &mut Random, cipher: Cipher) -> Vec<u8> {
+    let position = small_position(random);
+    let words = cipher.key_bytes() / 4;
+    let mut area = ciphers::set_up(cipher, &random.words(words), &random.words(words));
+    ciphers::steps_forward(cipher, &mut area, 0, calls::steps_at(position));
+    calls::checkpoint(cipher.code(), position, &area)
+}
+
+/// A position near 0, near the end of some table's turn, or any within a few turns.
+fn small_position(random: &mut Random) -> u64 {
+    match random.below(3) {
+        0 => random.below(20),
+        1 => random.between(1, 9) * 2048 + random.below(14) - 7,
+        _ => random.below(30_000),
+    }
+}
+
+/// The length of what load reads as code and position.
+fn start_length(string: &[u8]) -> usize {
+    let groups = string.iter().skip(1).take(4).take_while(|byte| **byte >= 0x80).count();
+    (groups + 2).min(string.len())
+}
+
+impl List<'_> {
+    /// Whether a way of so many bytes may be gone; a far one uses up a far call.
+    fn may_go(&mut self, bytes: u64) -> bool {
+        if bytes <= NEAR {
+            return true;
+        }
+        if self.far_calls == 0 {
+            return false;
+        }
+        self.far_calls -= 1;
+        true
+    }
+
+    /// Mostly the area size of a code's cipher, else any.
+    fn words(&mut self, code: u8) -> usize {
+        match Cipher::of_code(code) {
+            Some(cipher) if !self.random.once_in(14) => cipher.area_words(),
+            _ => {
+                let any = self.random.between(0, MEMORY_WORDS as u64) as usize;
+                self.random.pick(&[0, 1, 512, 1023, 1024, 1025, 2047, 2048, 2049, any])
+            }
+        }
+    }
+
+    /// Mostly the key and IV length of a code's cipher, else any.
+    fn key_length(&mut self, code: u8) -> usize {
+        match Cipher::of_code(code) {
+            Some(cipher) if !self.random.once_in(12) => cipher.key_bytes(),
+            _ => self.random.pick(&[0, 1, 15, 16, 17, 31, 32, 33, 64]),
+        }
+    }
+
+    fn good_set_up(&mut self) -> Result<(), String> {
+        let code = self.random.pick(&[1, 2]);
+        let cipher = Cipher::of_code(code).unwrap();
+        let key = self.random.bytes(cipher.key_bytes());
+        let iv = self.random.bytes(cipher.key_bytes());
+        self.both.set_up(cipher.area_words(), code, &key, &iv)?.map_err(|_| "set up refused".to_string())
+    }
+
+    /// Takes a true key and IV near the limit, so that later far calls find them there.
+    fn go_far(&mut self) -> Result<(), String> {
+        self.good_set_up()?;
+        let words = Cipher::of_code(self.both.head.code).unwrap().area_words();
+        let distance = (LIMIT - self.random.below(9_000)) as i64;
+        self.far_calls -= 1;
+        self.both.move_by(words, distance)?.map_err(|_| "move refused")?;
+        let checkpoint = self.both.write(words, &[0; 8200])?.map_err(|_| "write refused")?;
+        self.checkpoints.push(checkpoint);
+        Ok(())
+    }
+
+    fn any_call(&mut self) -> Result<(), String> {
+        match self.random.below(100) {
+            0..=9 => self.set_up(),
+            10..=34 => {
+                let length = self.cipher_length();
+                self.cipher(length)
+            }
+            35..=56 => self.move_by(),
+            57..=66 => self.write(),
+            67..=74 => self.recover(),
+            75..=94 => self.load(),
+            _ => self.both.spent().map(|_| ()),
+        }
+    }
+
+    fn set_up(&mut self) -> Result<(), String> {
+        let any = self.random.next() as u8;
+        let code = if self.random.once_in(8) { self.random.pick(&[0, 3, 255, any]) } else { self.random.pick(&[1, 2]) };
+        let key_length = self.key_length(code);
+        let iv_length = self.key_length(code);
+        let key = self.random.bytes(key_length);
+        let iv = self.random.bytes(iv_length);
+        let words = self.words(code);
+        self.both.set_up(words, code, &key, &iv).map(|_| ())
+    }
+
+    fn cipher_length(&mut self) -> usize {
+        let left = LIMIT.saturating_sub(self.both.head.position);
+        let turn = self.random.pick(&[2048, 4096, 8192]);
+        let to_turn = turn - self.both.head.position % turn;
+        let length = match self.random.below(16) {
+            0 => 0,
+            1..=6 => self.random.between(1, 16),
+            7..=9 => self.random.between(17, 300),
+            10..=11 => to_turn + self.random.below(10),
+            12 => to_turn,
+            13 => left.min(70_000),
+            14 => (left + 1).min(70_000),
+            _ => self.random.between(300, 70_000),
+        };
+        length as usize
+    }
+
+    fn cipher(&mut self, length: usize) -> Result<(), String> {
+        let words = self.words(self.both.head.code);
+        let bytes = self.random.bytes(length);
+        self.both.cipher(words, &bytes).map(|_| ())
+    }
+
+    fn distance(&mut self) -> i64 {
+        let position = self.both.head.position as i128;
+        let limit = LIMIT as i128;
+        let turn = self.random.pick(&[2048, 4096, 8192]) as i128;
+        let distance = match self.random.below(16) {
+            0..=3 => self.random.below(41) as i128 - 20,
+            4..=6 => (position / turn + self.random.below(5) as i128 - 2) * turn + self.random.below(11) as i128 - 5 - position,
+            7..=8 => self.random.below(200_001) as i128 - 100_000,
+            9 => -position,
+            10 => -position - 1,
+            11 => limit - position,
+            12 => limit + 1 - position,
+            13 => self.random.pick(&[i64::MIN, i64::MIN + 1, i64::MAX, i64::MAX - 1, 1, -1]) as i128,
+            14 => self.random.next() as i64 as i128,
+            _ => self.random.below(2 * LIMIT) as i128 - limit,
+        };
+        distance.clamp(i64::MIN as i128, i64::MAX as i128) as i64
+    }
+
+    fn move_by(&mut self) -> Result<(), String> {
+        let mut distance = self.distance();
+        let end = self.both.head.position as i128 + distance as i128;
+        if (0..=LIMIT as i128).contains(&end) && !self.may_go(distance.unsigned_abs()) {
+            distance %= 9_000;
+        }
+        let words = self.words(self.both.head.code);
+        self.both.move_by(words, distance).map(|_| ())
+    }
+
+    fn write(&mut self) -> Result<(), String> {
+        let room = Cipher::of_code(self.both.head.code).map_or(4101, calls::room);
+        let length = match self.random.below(8) {
+            0..=3 => room,
+            4..=5 => room + self.random.below(100) as usize,
+            6 => self.random.pick(&[0, 1, 4100, 4101, 8196, 8197, room - 1, room - 2, room - 3, room - 4]),
+            _ => self.random.below(10_000) as usize,
+        };
+        let lent = self.random.bytes(length);
+        let words = self.words(self.both.head.code);
+        if let Ok(checkpoint) = self.both.write(words, &lent)? {
+            self.checkpoints.push(checkpoint);
+        }
+        Ok(())
+    }
+
+    fn recover(&mut self) -> Result<(), String> {
+        let head = self.both.head;
+        let words = self.words(head.code);
+        let mut key_length = self.key_length(head.code);
+        let iv_length = self.key_length(head.code);
+        let goes = Cipher::of_code(head.code).is_some_and(|cipher| {
+            words == cipher.area_words()
+                && head.position <= LIMIT
+                && key_length == cipher.key_bytes()
+                && iv_length == cipher.key_bytes()
+        });
+        if goes && !self.may_go(head.position) {
+            key_length -= 1;
+        }
+        let key = self.random.bytes(key_length);
+        let iv = self.random.bytes(iv_length);
+        self.both.recover(words, &key, &iv).map(|_| ())
+    }
+
+    fn load(&mut self) -> Result<(), String> {
+        let newest = self.random.once_in(2);
+        let any = self.random.below(self.checkpoints.len() as u64) as usize;
+        let mut string = self.checkpoints[if newest { self.checkpoints.len() - 1 } else { any }].clone();
+        if !self.random.once_in(4) {
+            string = self.damaged(string);
+            if self.random.once_in(4) {
+                string = self.damaged(string);
+            }
+        }
+        let code = string.first().copied().unwrap_or(self.both.head.code);
+        let words = self.words(code);
+        if let Ok((_, position, _)) = calls::parts(words, &string) {
+            if !self.may_go(position) {
+                string.pop();
+            }
+        }
+        self.both.load(words, &string).map(|_| ())
+    }
+
+    /// The string with one damage, which may happen to leave a checkpoint.
+    fn damaged(&mut self, mut string: Vec<u8>) -> Vec<u8> {
+        if string.is_empty() {
+            return string;
+        }
+        let start = start_length(&string);
+        let length = string.len() as u64;
+        match self.random.below(16) {
+            0 => string.truncate(self.random.below(length) as usize),
+            1 => string.truncate(self.random.below(7) as usize),
+            2 => string.clear(),
+            3 => {
+                let count = self.random.between(1, 8) as usize;
+                string.extend(self.random.bytes(count));
+            }
+            4 => {
+                let bit = self.random.below(8 * length);
+                string[(bit / 8) as usize] ^= 1 << (bit % 8);
+            }
+            5 => {
+                let bit = self.random.below(8 * length.min(5));
+                string[(bit / 8) as usize] ^= 1 << (bit % 8);
+            }
+            6 => string[0] = self.random.pick(&[0, 1, 2, 3, 255]),
+            7..=8 => {
+                let number = self.number(&string[1..start]);
+                string.splice(1..start, number);
+            }
+            9 => {
+                let number = self.number(&string[1..start]);
+                string.truncate(1);
+                string.extend(number);
+            }
+            10 => {
+                let number = calls::groups_of(small_position(&mut self.random));
+                string.splice(1..start, number);
+            }
+            11 => {
+                let near = self.both.head.position.min(LIMIT) + self.random.below(9);
+                string.splice(1..start, calls::groups_of(near.saturating_sub(4)));
+            }
+            12 => {
+                let over = LIMIT + 1 + self.random.below((1 << 28) - 1 - LIMIT);
+                let number = calls::groups_of(self.random.pick(&[LIMIT + 1, (1 << 28) - 1, over]));
+                string.splice(1..start, number);
+            }
+            13..=14 => {
+                let other = self.random.below(self.checkpoints.len() as u64) as usize;
+                let other = &self.checkpoints[other][start_length(&self.checkpoints[other])..];
+                let kept = if self.random.once_in(2) { start } else { start + other.len() / 2 };
+                if other.len() == string.len() - start {
+                    string.truncate(kept);
+                    string.extend(&other[kept - start..]);
+                }
+            }
+            _ => {
+                let random = self.random.bytes(string.len() - start);
+                string.truncate(start);
+                string.extend(random);
+            }
+        }
+        string
+    }
+
+    /// Bytes in the place of a position: not shortest, too long, or at the edges.
+    fn number(&mut self, before: &[u8]) -> Vec<u8> {
+        let mut longer = before.to_vec();
+        if let Some(last) = longer.last_mut() {
+            *last |= 0x80;
+        }
+        longer.push(0);
+        let made: [&[u8]; 18] = [
+            &longer,
+            &[0x00],
+            &[0x7f],
+            &[0x80],
+            &[0x80, 0x00],
+            &[0xff, 0x00],
+            &[0x80, 0x80],
+            &[0xff, 0x80, 0x00],
+            &[0x80, 0x80, 0x01],
+            &[0x80, 0x80, 0x80],
+            &[0x80, 0x80, 0x80, 0x00],
+            &[0xff, 0xff, 0xff, 0x00],
+            &[0x80, 0x80, 0x80, 0x20],
+            &[0x81, 0x80, 0x80, 0x20],
+            &[0x80, 0x80, 0x80, 0x80],
+            &[0xff, 0xff, 0xff, 0xff],
+            &[0x80, 0x80, 0x80, 0x80, 0x00],
+            &[0xff, 0xff, 0xff, 0xff, 0x7f],
+        ];
+        self.random.pick(&made).to_vec()
+    }
+}

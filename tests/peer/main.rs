@@ -1,0 +1,84 @@
+//! Compares the archive with the peer: main [SEED [LISTS]].
+
+mod archive;
+mod both;
+mod calls;
+mod ciphers;
+mod lent;
+mod lists;
+mod made;
+mod random;
+mod tally;
+mod vectors;
+mod whole;
+
+use ciphers::Cipher;
+use std::process::ExitCode;
+use std::time::Instant;
+use tally::Tally;
+
+/// The fewest calls that the random lists of a run without LISTS must make.
+const FEWEST_CALLS: u64 = 20_000;
+
+const DEFAULT_SEED: u64 = 1;
+const DEFAULT_LISTS: u64 = 3_000;
+
+/// A number from the command line, or its default.
+fn argument(place: usize, default: u64) -> Result<u64, String> {
+    match std::env::args().nth(place) {
+        None => Ok(default),
+        Some(word) => word.parse().map_err(|_| format!("not a number: {word}")),
+    }
+}
+
+fn compare(seed: u64, lists: u64) -> Result<(), String> {
+    if !vectors::all_right() {
+        return Err("the peer is wrong: it does not give the papers' vectors".to_string());
+    }
+
+    let mut made = Tally::default();
+    made::run(seed, &mut made).map_err(|text| format!("made cases, {text}"))?;
+    println!("made cases: {} calls, no difference", made.calls);
+
+    for (cipher, name) in [(Cipher::Hc128, "HC-128"), (Cipher::Hc256, "HC-256")] {
+        let mut whole = Tally::default();
+        let compared = whole::run(seed, cipher, &mut whole).map_err(|text| format!("{name} to the limit and back, {text}"))?;
+        println!("{name} to the limit and back: {} calls, {compared} checkpoints, no difference", whole.calls);
+    }
+
+    let mut random = Tally::default();
+    for list in 0..lists {
+        lists::run(seed, list, &mut random).map_err(|text| format!("list {list}, {text}"))?;
+    }
+    println!("{lists} random lists: no difference");
+    let faults = random.print_and_check();
+    if !faults.is_empty() {
+        return Err(faults.join("\n"));
+    }
+    if lists >= DEFAULT_LISTS && random.calls < FEWEST_CALLS {
+        return Err(format!("fewer than {FEWEST_CALLS} calls"));
+    }
+    Ok(())
+}
+
+fn main() -> ExitCode {
+    let (seed, lists) = match (argument(1, DEFAULT_SEED), argument(2, DEFAULT_LISTS)) {
+        (Ok(seed), Ok(lists)) => (seed, lists),
+        (Err(text), _) | (_, Err(text)) => {
+            eprintln!("{text}\nusage: tests/peer/run [SEED [LISTS]]");
+            return ExitCode::from(2);
+        }
+    };
+    let start = Instant::now();
+    println!("seed {seed}, {lists} lists");
+    match compare(seed, lists) {
+        Ok(()) => {
+            println!("peer: ok, {} s", start.elapsed().as_secs());
+            ExitCode::SUCCESS
+        }
+        Err(text) => {
+            println!("peer: FAILED with seed {seed}, {lists} lists\n{text}");
+            ExitCode::FAILURE
+        }
+    }
+}

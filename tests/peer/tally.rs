@@ -1,0 +1,102 @@
+//! The count of calls by kind, cipher and answer, and the answers that document 01 says must occur.
+
+use crate::ciphers::Cipher;
+use std::collections::BTreeMap;
+
+/// The columns of the count: the ciphers, and calls whose code names none.
+const COLUMNS: [&str; 3] = ["HC-128", "HC-256", "neither"];
+
+/// For each call the answers that document 01 gives it, and whether the code names a cipher where the answer occurs.
+const EXPECTED: [(&str, &[(&str, bool)]); 7] = [
+    ("set up", &[("accepted", true), ("1", false), ("2", true), ("3", true), ("4", true)]),
+    ("cipher", &[("accepted", true), ("1", false), ("4", true), ("5", true), ("6", true)]),
+    ("move", &[("accepted", true), ("1", false), ("4", true), ("5", true), ("7", true), ("6", true)]),
+    ("write", &[("accepted", true), ("1", false), ("4", true), ("5", true), ("8", true)]),
+    ("recover", &[("accepted", true), ("1", false), ("4", true), ("5", true), ("2", true), ("3", true), ("12", true)]),
+    (
+        "load",
+        &[
+            ("accepted", true),
+            ("9 no bytes", false),
+            ("1", false),
+            ("4", true),
+            ("10 fourth group announces another", true),
+            ("9 ends before the last group", true),
+            ("10 last group is 0", true),
+            ("5", true),
+            ("11", true),
+            ("12", true),
+        ],
+    ),
+    ("spent", &[("accepted", true), ("1", false), ("5", true)]),
+];
+
+/// Accepted calls of special interest that must occur for both ciphers.
+const SPECIAL: [&str; 10] = [
+    "cipher of no bytes",
+    "cipher from inside a word",
+    "cipher past the last word of a table",
+    "cipher to the limit",
+    "move of 0 bytes",
+    "move back past the first word of a table",
+    "move from inside a word to inside a word",
+    "move to 0",
+    "move to the limit",
+    "load where the head had another cipher",
+];
+
+#[derive(Default)]
+pub struct Tally {
+    counts: BTreeMap<(String, String), [u64; 3]>,
+    pub calls: u64,
+}
+
+fn column(cipher: Option<Cipher>) -> usize {
+    match cipher {
+        Some(Cipher::Hc128) => 0,
+        Some(Cipher::Hc256) => 1,
+        None => 2,
+    }
+}
+
+impl Tally {
+    /// Counts one call and its answer.
+    pub fn call(&mut self, call: &str, answer: &str, cipher: Option<Cipher>) {
+        self.calls += 1;
+        self.counts.entry((call.to_string(), answer.to_string())).or_default()[column(cipher)] += 1;
+    }
+
+    /// Counts one accepted call of special interest.
+    pub fn special(&mut self, what: &str, cipher: Cipher) {
+        self.counts.entry(("special".to_string(), what.to_string())).or_default()[column(Some(cipher))] += 1;
+    }
+
+    /// Prints the count and returns what is missing from it or has no place in it.
+    pub fn print_and_check(&self) -> Vec<String> {
+        let mut faults = Vec::new();
+        let mut left = self.counts.clone();
+        println!("{:<8} {:<41} {:>8} {:>8} {:>8}", "call", "answer", COLUMNS[0], COLUMNS[1], COLUMNS[2]);
+        let special: Vec<(&str, bool)> = SPECIAL.iter().map(|what| (*what, true)).collect();
+        let rows = EXPECTED.iter().copied().chain([("special", &special[..])]);
+        for (call, answers) in rows {
+            for (answer, has_cipher) in answers {
+                let counts = left.remove(&(call.to_string(), answer.to_string())).unwrap_or_default();
+                println!("{:<8} {:<41} {:>8} {:>8} {:>8}", call, answer, counts[0], counts[1], counts[2]);
+                for k in 0..3 {
+                    let expected = *has_cipher == (k < 2);
+                    if expected && counts[k] == 0 {
+                        faults.push(format!("never occurred: {call}, {answer}, {}", COLUMNS[k]));
+                    }
+                    if !expected && counts[k] != 0 {
+                        faults.push(format!("must not occur: {call}, {answer}, {}", COLUMNS[k]));
+                    }
+                }
+            }
+        }
+        for (call, answer) in left.keys() {
+            faults.push(format!("must not occur: {call}, {answer}"));
+        }
+        println!("{} calls", self.calls);
+        faults
+    }
+}

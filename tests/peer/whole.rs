@@ -1,0 +1,80 @@
+//! One key and IV taken from 0 to the limit and back to 0 in pieces of odd sizes.
+
+use crate::both::Both;
+use crate::calls::{self, FRESH, LIMIT};
+use crate::ciphers::{self, Cipher};
+use crate::random::Random;
+use crate::tally::Tally;
+
+/// The size of a piece, mostly some hundred thousand bytes and sometimes a few.
+fn piece(random: &mut Random) -> u64 {
+    if random.once_in(4) {
+        random.below(8) * 2 + 1
+    } else {
+        random.below(400_000) * 2 + 1
+    }
+}
+
+/// The text of a difference that the comparison of both sides cannot show.
+fn must(holds: bool, what: &str) -> Result<(), String> {
+    if holds {
+        Ok(())
+    } else {
+        Err(format!("wrong on both sides: {what}"))
+    }
+}
+
+/// The whole run of one cipher; the result is the number of checkpoints compared, or the text of the first difference.
+pub fn run(seed: u64, cipher: Cipher, tally: &mut Tally) -> Result<usize, String> {
+    let mut random = Random::new(seed, u64::MAX - cipher.code() as u64);
+    let words = cipher.area_words();
+    let bytes = cipher.key_bytes();
+    let room = calls::room(cipher);
+    let (key, iv) = (random.bytes(bytes), random.bytes(bytes));
+    let key_and_iv = Ok((key.clone(), iv.clone()));
+    let mut both = Both::new(FRESH, random.words(words), tally);
+    both.set_up(words, cipher.code(), &key, &iv)?.map_err(|_| "set up refused")?;
+    let first_area = both.area.clone();
+    let mut compared = 0;
+
+    let mut passed = Vec::new();
+    while both.head.position < LIMIT {
+        let size = piece(&mut random).min(LIMIT - both.head.position);
+        if random.once_in(2) {
+            both.cipher(words, &random.bytes(size as usize))?.map_err(|_| "cipher refused")?;
+        } else {
+            both.move_by(words, size as i64)?.map_err(|_| "move refused")?;
+        }
+        let checkpoint = both.write(words, &random.bytes(room))?.map_err(|_| "write refused")?;
+        compared += 1;
+        passed.push((both.head.position, checkpoint));
+    }
+
+    must(both.head.position == LIMIT && both.spent()? == Ok(LIMIT), "the position is the limit")?;
+    must(both.cipher(words, &[0])? == Err(6), "a byte at the limit gets 6")?;
+    must(both.recover(words, &vec![0; bytes], &vec![0; bytes])? == key_and_iv, "key and IV recovered at the limit")?;
+    let at_limit = passed.last().unwrap().1.clone();
+    let loaded = both.load(words, &at_limit)?.map_err(|_| "load refused")?;
+    let (key_words, iv_words) = (ciphers::words_of_bytes(&key), ciphers::words_of_bytes(&iv));
+    must(loaded.0[..bytes / 4] == key_words && loaded.1[..bytes / 4] == iv_words, "key and IV loaded at the limit")?;
+
+    for (position, checkpoint) in passed.iter().rev() {
+        let left = both.head.position - position;
+        if left > 2 {
+            let part = random.below(left / 2) * 2 + 1;
+            both.move_by(words, -(part as i64))?.map_err(|_| "move refused")?;
+            both.write(words, &random.bytes(room))?.map_err(|_| "write refused")?;
+            compared += 1;
+        }
+        let left = both.head.position - position;
+        both.move_by(words, -(left as i64))?.map_err(|_| "move refused")?;
+        let again = both.write(words, &random.bytes(room))?.map_err(|_| "write refused")?;
+        compared += 1;
+        must(again == *checkpoint, "the checkpoint on the way back is that of the way there")?;
+    }
+    let left = both.head.position;
+    both.move_by(words, -(left as i64))?.map_err(|_| "move refused")?;
+    must(both.area == first_area, "the tables at 0 are those of set-up")?;
+    must(both.recover(words, &vec![0; bytes], &vec![0; bytes])? == key_and_iv, "key and IV recovered at 0")?;
+    Ok(compared)
+}
