@@ -1,0 +1,332 @@
+// What a box does with one cipher: set up, cipher, write and load checkpoints, recover, move, up to the stream limit and back.
+ghost use Prim.Native.Nat.{_≤_};
+use crate::compare::accepted;
+use crate::compare::are_words;
+use crate::compare::change;
+use crate::compare::fill_bytes;
+use crate::compare::fill_words;
+use crate::compare::has_bytes;
+use crate::compare::has_words;
+use crate::compare::is_head;
+use crate::compare::least;
+use crate::compare::same_words;
+use crate::line::report;
+use crate::refusals::STRIDE;
+use crate::refusals::refuses_load;
+use crate::refusals::refuses_recover;
+use check::same;
+use engine::Head;
+
+// The bytes of a key, and of an IV.
+fn key_bytes(code: u8) -> usize
+    ensures { λ r. ⌜ r ≤ 32 ⌝ }
+{
+    if code == 1 { 16 } else { 32 }
+}
+
+// The words of an area.
+fn area_words(code: u8) -> usize
+    ensures { λ r. ⌜ r ≤ 2048 ⌝ }
+{
+    if code == 1 { 1024 } else { 2048 }
+}
+
+// The bytes that write asks for.
+fn room(code: u8) -> usize
+    ensures { λ r. ⌜ r ≤ 8197 ⌝ }
+{
+    if code == 1 { 4101 } else { 8197 }
+}
+
+// Whether set up by a head is accepted with the story's key and IV, in which no two bytes are alike, over other words.
+fn sets_up(head: Head, code: u8, area: &mut [u32], first: u32) -> bool {
+    let mut key = [0u8; 32];
+    let mut iv = [0u8; 32];
+    let n = key_bytes(code);
+    fill_bytes(&mut key, 1, 1);
+    fill_bytes(&mut iv, 33, 1);
+    fill_words(area, first, STRIDE);
+    let done = head.set_up(code, &key[..n], &iv[..n], area);
+    accepted(done, code, 0)
+}
+
+// Whether bytes are ciphered from one position to another.
+fn ciphers(code: u8, from: u64, to: u64, area: &mut [u32], bytes: &mut [u8]) -> bool {
+    let done = Head::at(code, from).cipher(area, bytes);
+    accepted(done, code, to)
+}
+
+// Whether an area is moved from one position to another.
+fn moves(code: u8, from: u64, distance: i64, to: u64, area: &mut [u32]) -> bool {
+    let done = Head::at(code, from).move_by(area, distance);
+    accepted(done, code, to)
+}
+
+// Two areas that hold different words are set up, one by a fresh head.
+fn begins(code: u8, area: &mut [u32], other: &mut [u32]) {
+    let a = sets_up(Head::fresh(), code, area, 7);
+    let b = sets_up(Head::at(3, 67_108_865), code, other, 9);
+    let ok = a & b & !has_words(area, 7, STRIDE);
+    report(code, 0, b"set up", ok & same_words(area, other));
+}
+
+// Moves back to 0, to the tables that set up gives.
+fn goes_back(code: u8, from: u64, distance: i64, area: &mut [u32], other: &mut [u32]) {
+    let a = moves(code, from, distance, 0, area);
+    let b = sets_up(Head::at(code, from), code, other, 9);
+    report(
+        code,
+        from,
+        b"move back to 0",
+        a & b & same_words(area, other),
+    );
+}
+
+// Enciphers bytes from 0 on; the other area is moved by as many.
+fn comes_to(
+    code: u8,
+    to: u64,
+    distance: i64,
+    area: &mut [u32],
+    other: &mut [u32],
+    bytes: &mut [u8],
+) {
+    fill_bytes(bytes, 5, 3);
+    let a = ciphers(code, 0, to, area, bytes);
+    let b = moves(code, 0, distance, to, other);
+    let ok = a & b & !has_bytes(bytes, 5, 3);
+    report(code, to, b"encipher and move", ok & same_words(area, other));
+}
+
+// Ciphers bytes in parts of 1 to 13 bytes, and gives the next head.
+fn cipher_in_parts(head: Head, area: &mut [u32], bytes: &mut [u8]) -> Head {
+    let mut next = head;
+    let mut at = 0;
+    while at < bytes.len() {
+        let end = at + 1 + least(at % 13, bytes.len() - at - 1);
+        let done = next.cipher(area, &mut bytes[at..end]);
+        let h = done.head;
+        next = h;
+        at = end;
+    }
+    next
+}
+
+// Deciphers in parts what was enciphered at once; the other area is moved by as many.
+fn comes_again(
+    code: u8,
+    to: u64,
+    distance: i64,
+    area: &mut [u32],
+    other: &mut [u32],
+    bytes: &mut [u8],
+) {
+    let last = cipher_in_parts(Head::at(code, 0), area, bytes);
+    let a = is_head(last, code, to) & has_bytes(bytes, 5, 3);
+    let b = moves(code, 0, distance, to, other);
+    report(
+        code,
+        to,
+        b"decipher in parts",
+        a & b & same_words(area, other),
+    );
+}
+
+// Whether a string is the bytes of a position and the words of the tables, and nothing else.
+fn is_position_and_words(string: &[u8], position: &[u8], area: &[u32]) -> bool {
+    let n = least(position.len(), string.len());
+    same(&string[..n], position) & are_words(&string[n..], area)
+}
+
+// Whether a string is the checkpoint of a code, the bytes of a position and the words of the tables.
+fn is_checkpoint(string: &[u8], code: u8, position: &[u8], area: &[u32]) -> bool {
+    if string.len() == 0 {
+        return false;
+    }
+    (string[0] == code) & is_position_and_words(&string[1..], position, area)
+}
+
+// Writes a checkpoint and gives its length; later bytes stay.
+fn writes(code: u8, at: u64, position: &[u8], area: &[u32], lent: &mut [u8]) -> usize {
+    fill_bytes(lent, 165, 0);
+    let answer = Head::at(code, at).write(area, lent);
+    let head = answer.head;
+    let length = answer.length;
+    let n = least(length, lent.len());
+    let given = (answer.refusal == 0) & (length == n) & is_head(head, code, at);
+    let written = is_checkpoint(&lent[..n], code, position, area);
+    report(
+        code,
+        at,
+        b"write",
+        given & written & has_bytes(&lent[n..], 165, 0),
+    );
+    n
+}
+
+// Whether eight words are n words of the key or the IV that begins with this word, and then 0.
+fn eight_are(words: &[u32], n: usize, first: u32) -> bool {
+    let m = least(n, words.len());
+    has_words(&words[..m], first, 0x04040404) & has_words(&words[m..], 0, 0)
+}
+
+// Whether load gives a head, and the tables, the key and the IV that the area came from.
+fn loads(code: u8, at: u64, string: &[u8], area: &[u32], other: &mut [u32]) -> bool {
+    fill_words(other, 9, STRIDE);
+    let answer = Head::at(3, 67_108_865).load(other, string);
+    let head = answer.head;
+    let key = answer.key;
+    let iv = answer.iv;
+    let n = key_bytes(code) / 4;
+    let found = eight_are(&key, n, 0x04030201) & eight_are(&iv, n, 0x24232221);
+    (answer.refusal == 0) & found & same_words(other, area) & is_head(head, code, at)
+}
+
+// Writes a checkpoint, loads it into another area, and gives its length.
+fn writes_and_loads(
+    code: u8,
+    at: u64,
+    position: &[u8],
+    area: &[u32],
+    other: &mut [u32],
+    lent: &mut [u8],
+) -> usize {
+    let n = least(writes(code, at, position, area, lent), lent.len());
+    report(code, at, b"load", loads(code, at, &lent[..n], area, other));
+    n
+}
+
+// A checkpoint written with just the room that write asks for, and loaded.
+fn checkpoint(code: u8, at: u64, position: &[u8], area: &[u32], other: &mut [u32]) {
+    let mut lent = [0u8; 8197];
+    let n = room(code);
+    writes_and_loads(code, at, position, area, other, &mut lent[..n]);
+}
+
+// Load of the checkpoint at 8195 gets 12 where this byte is changed; the byte is then put back.
+fn load_changed(code: u8, case: &[u8], at: usize, byte: u8, string: &mut [u8], other: &mut [u32]) {
+    let was = change(string, at, byte);
+    let ok = refuses_load(string, other, 12);
+    change(string, at, was);
+    report(code, 8195, case, ok & (was != byte));
+}
+
+// Loads of the checkpoint at 8195 with a byte of its tables changed, or its position into that of another word.
+fn loads_changed(code: u8, string: &mut [u8], other: &mut [u32]) {
+    let last = string.len() - least(1, string.len());
+    load_changed(code, b"load 12 first word changed", 3, 0, string, other);
+    load_changed(code, b"load 12 last word changed", last, 0, string, other);
+    load_changed(code, b"load 12 as at 8192", 1, 0x80, string, other);
+    load_changed(code, b"load 12 as at 8197", 1, 0x85, string, other);
+}
+
+// Load of the checkpoint at 8195 at another position of the same word, of which the lowest group is given.
+fn load_in_word(code: u8, at: u64, group: u8, string: &mut [u8], area: &[u32], other: &mut [u32]) {
+    let was = change(string, 1, group);
+    let ok = loads(code, at, string, area, other);
+    report(code, at, b"load in the same word", ok & (was != group));
+}
+
+// The checkpoint at 8195, which lies inside a word, past a turn of both tables of either cipher.
+fn checkpoint_in_word(code: u8, area: &[u32], other: &mut [u32], lent: &mut [u8]) {
+    let n = writes_and_loads(code, 8195, b"\x83\x40", area, other, lent);
+    let m = least(n, lent.len());
+    loads_changed(code, &mut lent[..m], other);
+    load_in_word(code, 8193, 0x81, &mut lent[..m], area, other);
+    load_in_word(code, 8196, 0x84, &mut lent[..m], area, other);
+}
+
+// From 8195 on to 8972: enciphered with the tables, and deciphered with the tables that were loaded.
+fn goes_on(code: u8, area: &mut [u32], other: &mut [u32], bytes: &mut [u8]) {
+    fill_bytes(bytes, 11, 7);
+    let a = ciphers(code, 8195, 8972, area, bytes) & !has_bytes(bytes, 11, 7);
+    let b = ciphers(code, 8195, 8972, other, bytes) & has_bytes(bytes, 11, 7);
+    let ok = a & b & same_words(area, other);
+    report(code, 8972, b"encipher, and decipher after a load", ok);
+}
+
+// Recovers the key and the IV into buffers, and nothing at a position of another word.
+fn recovers_into(code: u8, at: u64, later: u64, area: &[u32], key: &mut [u8], iv: &mut [u8]) {
+    let none = refuses_recover(code, later, area, key, iv, 12);
+    report(code, later, b"recover 12 in another word", none);
+    let done = Head::at(code, at).recover(area, key, iv);
+    let found = has_bytes(key, 1, 1) & has_bytes(iv, 33, 1);
+    report(code, at, b"recover", accepted(done, code, at) & found);
+}
+
+// Recovers the key and the IV.
+fn recovers(code: u8, at: u64, later: u64, area: &[u32]) {
+    let mut key = [0u8; 32];
+    let mut iv = [0u8; 32];
+    let n = key_bytes(code);
+    recovers_into(code, at, later, area, &mut key[..n], &mut iv[..n]);
+}
+
+// The last four bytes: at once in one area, and in the other a move by three and one byte, which is as the last of the four.
+fn last_bytes(code: u8, area: &mut [u32], other: &mut [u32]) {
+    let mut four = [0u8; 4];
+    let mut one = [0u8; 1];
+    let a = ciphers(code, 67_108_860, 67_108_864, area, &mut four);
+    let b = moves(code, 67_108_860, 3, 67_108_863, other);
+    let c = ciphers(code, 67_108_863, 67_108_864, other, &mut one);
+    let ok = a & b & c & (one[0] == four[3]) & same_words(area, other);
+    report(
+        code,
+        67_108_863,
+        b"cipher one byte, as the last of four",
+        ok,
+    );
+}
+
+// Set up, to 3 and back.
+fn first_steps(code: u8, area: &mut [u32], other: &mut [u32]) {
+    let mut three = [0u8; 3];
+    begins(code, area, other);
+    comes_to(code, 3, 3, area, other, &mut three);
+    goes_back(code, 3, -3, area, other);
+}
+
+// To 8195, and from a checkpoint on to 8972.
+fn forward(code: u8, area: &mut [u32], other: &mut [u32], text: &mut [u8]) {
+    let mut lent = [0u8; 8200];
+    let mut more = [0u8; 777];
+    comes_to(code, 8195, 8195, area, other, text);
+    checkpoint_in_word(code, area, other, &mut lent);
+    goes_on(code, area, other, &mut more);
+}
+
+// From 8972 back to 0.
+fn back(code: u8, area: &mut [u32], other: &mut [u32]) {
+    recovers(code, 8972, 8976, area);
+    goes_back(code, 8972, -8972, area, other);
+    recovers(code, 0, 1, area);
+    checkpoint(code, 0, b"\x00", area, other);
+}
+
+// From 8195 to the stream limit, and all the way back.
+fn limit(code: u8, area: &mut [u32], other: &mut [u32]) {
+    let ok = moves(code, 8195, 67_100_665, 67_108_860, area);
+    report(code, 67_108_860, b"move", ok);
+    checkpoint(code, 67_108_860, b"\xfc\xff\xff\x1f", area, other);
+    last_bytes(code, area, other);
+    checkpoint(code, 67_108_864, b"\x80\x80\x80\x20", area, other);
+    goes_back(code, 67_108_864, -67_108_864, area, other);
+}
+
+// The whole story.
+fn scenes(code: u8, area: &mut [u32], other: &mut [u32]) {
+    let mut text = [0u8; 8195];
+    first_steps(code, area, other);
+    forward(code, area, other, &mut text);
+    back(code, area, other);
+    comes_again(code, 8195, 8195, area, other, &mut text);
+    limit(code, area, other);
+}
+
+// The story of a cipher.
+pub fn of_cipher(code: u8) {
+    let mut area = [0u32; 2048];
+    let mut other = [0u32; 2048];
+    let n = area_words(code);
+    scenes(code, &mut area[..n], &mut other[..n]);
+}
