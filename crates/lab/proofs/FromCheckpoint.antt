@@ -1,0 +1,245 @@
+-- What a checkpoint alone gives: what load accepts is moved back to the tables of set-up. Assumes nothing.
+use mathlib.Core.Path.{_≡_, refl, sym, ap, _∙_, subst}
+use mathlib.Core.List.{List, [], _∷_, _++_}
+use Prim.Native.Nat.{ℕ, suc, _≤_}
+use native.Mathlib.Omega.{arith}
+use borrow.Author.Tests.{eq-eqb, ne-eqb, le-leb}
+use lib.IntN.{pos, negℤ, _-ℤ_, +ℤ-invr}
+use lib.ListN.{length, drop}
+use Rattle.laws.specs.Iterate.{forward}
+use Rattle.word.specs.Bytes.{words}
+use Rattle.word.proofs.Bytes.{length-words}
+use Rattle.word.proofs.Laws.{xor-xor}
+use Rattle.cipher.specs.declared.Cipher.{Cipher}
+use Rattle.cipher.specs.declared.Cipher.the-variants.{Hc128, Hc256}
+use Rattle.cipher.specs.Numbers.{codeOf, areaLength, keyLength, ivLength}
+use Rattle.cipher.proofs.Codes.{code-of}
+use Rattle.schedule.specs.Key.{Pair}
+use Rattle.keystream.specs.Steps.{moved}
+use Rattle.keystream.specs.Keystream.{ciphered, tablesNext, keyByte}
+use Rattle.keystream.proofs.Ciphered.{length-ciphered}
+use Rattle.setup.specs.SetUp as SetUp
+use Rattle.setup.specs.SetUp.{found}
+use Rattle.checkpoint.specs.Checkpoint.{layout, room}
+use Rattle.engine.specs.declared.Head.{Head}
+use Rattle.engine.specs.Result.{Result, refused, accepted, Left}
+use Rattle.engine.specs.Head.{limit, freshHead, headAt}
+use Rattle.engine.specs.Conditions.{undoAt, foundOr12, Loaded, setUpCheck, cipherCheck, loadCheck}
+use Rattle.engine.specs.Calls.{Engine, setUp, setUpCall, cipher, cipherCall, move, moveCall, write, writeCall, recover, recoverCall, load, loadCall}
+use Rattle.engine.proofs.Conditions.{ready-accepted}
+use Rattle.theorems.specs.Account.{Four, IsFour, Checkpoint, tablesOf, checkpointOf}
+use Rattle.theorems.proofs.Results.{no-refusal, accepted-one, after-line}
+use Rattle.theorems.proofs.Conditions.{accepted-only, load-passed, move-accepted, recover-finds}
+use Rattle.theorems.proofs.Checkpoints.{loadedOf, load-checkpoint}
+use Rattle.theorems.proofs.Tables.{four-sized, four-moved, undo-finds}
+use Rattle.lab.specs.Tasks.{cipherOf, loaded, moveTo, movedTo, opened, startedAt, thenWrite, writtenAt, rewrittenAt, recoveredFrom}
+use Rattle.lab.specs.FromCheckpoint.{cipherAfter, atPosition, checkpointPut, FromCheckpoint}
+use Rattle.lab.proofs.Advance.{load-not-0}
+use Rattle.lab.proofs.Tasks.{ends-at}
+
+-- ── load ──
+
+-- what an accepted load leaves
+engineOf : Loaded → Engine
+engineOf l = record { head = headAt (codeOf (l .cipher)) (l .position); area = l .area }
+
+loaded-accepted : (string area : List ℕ) (l : Loaded) → loadCheck string (length area) ≡ accepted l
+    → loaded string area ≡ record { refusal = 0; value = engineOf l }
+unfolding loaded loadCall load engineOf
+loaded-accepted string area l e = rw e
+
+loaded-refused : (string area : List ℕ) (n : ℕ) → loadCheck string (length area) ≡ refused n
+    → loaded string area ≡ record { refusal = n; value = record { head = freshHead; area = area } }
+unfolding loaded loadCall load
+loaded-refused string area n e = rw e
+
+-- an accepted load has filled an area of the cipher's size, at a position within the limit
+load-leaves : (string : List ℕ) (size : ℕ) (l : Loaded) → loadCheck string size ≡ accepted l
+    → (length (l .area) ≡ areaLength (l .cipher)) × (l .position ≤ limit)
+load-leaves string size l e =
+    let (c, p, rest, passed, last) = load-passed string size accepted-only e in
+    after-line (foundOr12 (undoAt c (words rest) p)) _ last (λ _. no-refusal) λ pair e₁ r₁.
+    subst
+    (λ (x : Loaded). (length (x .area) ≡ areaLength (x .cipher)) × (x .position ≤ limit))
+    (accepted-one refl r₁)
+    (length-words (areaLength c) rest (passed .rest-long), passed .within-limit)
+
+-- ── the move back ──
+
+moved-back : (c : Cipher) (p : ℕ) (s : List ℕ) → length s ≡ areaLength c → p ≤ limit
+    → moveCall (headAt (codeOf c) p) s (negℤ (pos p))
+    ≡ record { refusal = 0; value = record { head = headAt (codeOf c) 0; area = moved c s p 0 } }
+unfolding moveCall move
+moved-back c p s z l = rw (move-accepted c p (length s) (negℤ (pos p)) 0 z l (+ℤ-invr (pos p)) (omega arith))
+
+opened-accepted : (string area : List ℕ) (l : Loaded) → loadCheck string (length area) ≡ accepted l
+    → opened string area
+    ≡ record { refusal = 0; value = record { head = headAt (codeOf (l .cipher)) 0; area = moved (l .cipher) (l .area) (l .position) 0 } }
+unfolding opened engineOf
+opened-accepted string area l e =
+    let h = load-leaves string (length area) l e in
+    rw (loaded-accepted string area l e) (moved-back (l .cipher) (l .position) (l .area) (h .0) (h .1))
+
+not-0 : (string : List ℕ) (size n : ℕ) → loadCheck string size ≡ refused n → n ≡ 0 → ⊥
+not-0 string size n e z = load-not-0 string size (e ∙ ap refused z)
+
+opened-refused : (string area : List ℕ) (n : ℕ) → loadCheck string (length area) ≡ refused n
+    → opened string area ≡ record { refusal = n; value = record { head = freshHead; area = area } }
+unfolding opened
+opened-refused string area n e = rw (loaded-refused string area n e, ne-eqb n 0 (not-0 string (length area) n e))
+
+by-load : (string area : List ℕ) (x : Result Loaded) → loadCheck string (length area) ≡ x
+    → opened string area .refusal ≡ loadCall freshHead string area .refusal
+unfolding loadCall load
+by-load string area (refused n) e = ap (λ (l : Left Engine). l .refusal) (opened-refused string area n e) ∙ rw e
+by-load string area (accepted l) e = ap (λ (l : Left Engine). l .refusal) (opened-accepted string area l e) ∙ rw e
+
+-- ── the checkpoint of a four ──
+
+of-code : (c : Cipher) (rest : List ℕ) → cipherOf (codeOf c ∷ rest) ≡ c
+unfolding cipherOf
+of-code Hc128 rest = refl
+of-code Hc256 rest = refl
+
+cipher-is : (string : List ℕ) (f : Four) → Checkpoint string f → cipherOf string ≡ f .cipher
+unfolding checkpointOf layout
+cipher-is string f h = ap cipherOf (h .isString) ∙ of-code (f .cipher) _
+
+-- the tables at position 0 are those of set-up
+at-0 : (c : Cipher) (k v : List ℕ) → tablesOf (record { cipher = c; key = k; iv = v; position = 0 }) ≡ SetUp.setUp c k v
+unfolding tablesOf forward
+at-0 c k v = refl
+
+opens : (string area : List ℕ) (f : Four) → Checkpoint string f → length area ≡ areaLength (f .cipher)
+    → opened string area
+    ≡ record { refusal = 0; value = record { head = headAt (codeOf (f .cipher)) 0; area = SetUp.setUp (f .cipher) (f .key) (f .iv) } }
+opens string area f h z =
+    opened-accepted string area (loadedOf f) (load-checkpoint string (length area) f h z)
+    ∙ ap (λ (s : List ℕ). record { refusal = 0; value = record { head = headAt (codeOf (f .cipher)) 0; area = s } })
+    (four-moved f 0 (h .isFour) ∙ at-0 (f .cipher) (f .key) (f .iv))
+
+set-up-is : (c : Cipher) (k v area : List ℕ) → Pair c k v → length area ≡ areaLength c
+    → setUpCall freshHead (codeOf c) k v area ≡ record { refusal = 0; value = record { head = headAt (codeOf c) 0; area = SetUp.setUp c k v } }
+unfolding setUpCall setUp setUpCheck
+set-up-is c k v area pair z =
+    rw (code-of c, eq-eqb (length k) (keyLength c) (pair .key-long), eq-eqb (length v) (ivLength c) (pair .iv-long), eq-eqb (length area) (areaLength c) z)
+
+as-set-up : (string area : List ℕ) (f : Four) → Checkpoint string f → length area ≡ areaLength (f .cipher)
+    → opened string area ≡ setUpCall freshHead (codeOf (f .cipher)) (f .key) (f .iv) area
+as-set-up string area f h z =
+    opens string area f h z ∙ sym (set-up-is (f .cipher) (f .key) (f .iv) area (h .isFour .pair) z)
+
+-- ── deciphering ──
+
+ciphered-twice : (c : Cipher) (s : List ℕ) (p : ℕ) (bytes : List ℕ) → ciphered c s p (ciphered c s p bytes) ≡ bytes
+unfolding ciphered
+ciphered-twice c s p [] = refl
+ciphered-twice c s p (b ∷ bytes) =
+    let first = xor-xor b (keyByte c (tablesNext c s p) p) in
+    let rest = ciphered-twice c (tablesNext c s p) (suc p) bytes in
+    cc
+
+-- a cipher call on the bytes that one from the same head and tables left gives them back
+twice : (h : Head) (area bytes : List ℕ) (x : Result Cipher) → cipherCheck (h .code) (h .position) (length area) (length bytes) ≡ x
+    → cipherCall h area (cipherCall h area bytes .value .bytes) .value .bytes ≡ bytes
+unfolding cipherCall cipher
+twice h area bytes (refused n) e = rw (e, e)
+twice h area bytes (accepted c) e =
+    rw (e, length-ciphered c area (h .position) bytes, e) (ciphered-twice c area (h .position) bytes)
+
+deciphers : (string area log : List ℕ) (f : Four) → Checkpoint string f → length area ≡ areaLength (f .cipher)
+    → let enciphered = cipherAfter (setUpCall freshHead (codeOf (f .cipher)) (f .key) (f .iv) area) log .value .bytes in
+    cipherAfter (opened string area) enciphered .value .bytes ≡ log
+deciphers string area log f h z =
+    let e = setUpCall freshHead (codeOf (f .cipher)) (f .key) (f .iv) area .value in
+    rw (as-set-up string area f h z) (twice (e .head) (e .area) log _ refl)
+
+-- ── recovering ──
+
+undo-four : (f : Four) → IsFour f → undoAt (f .cipher) (tablesOf f) (f .position) ≡ found (f .key) (f .iv)
+unfolding tablesOf
+undo-four f h = undo-finds (f .cipher) (f .key) (f .iv) (f .position) (h .pair)
+
+recovers : (string area key iv : List ℕ) (f : Four) → Checkpoint string f → length area ≡ areaLength (f .cipher)
+    → length key ≡ keyLength (f .cipher) → length iv ≡ ivLength (f .cipher)
+    → recoveredFrom string area key iv
+    ≡ record {
+      refusal = 0;
+      value = record {
+        engine = record { head = headAt (codeOf (f .cipher)) (f .position); area = tablesOf f };
+        key = f .key;
+        iv = f .iv;
+      };
+    }
+unfolding recoveredFrom recoverCall recover engineOf
+recovers string area key iv f h z kn vn =
+    let c = f .cipher in
+    let sized = four-sized f (tablesOf f) (h .isFour) refl in
+    let finds =
+    recover-finds (codeOf c) (f .position) (tablesOf f) (length key) (length iv) c
+    (record { code-is = refl; sized = sized; within-limit = h .isFour .within })
+    kn
+    vn in
+    rw (loaded-accepted string area (loadedOf f) (load-checkpoint string (length area) f h z), finds, undo-four f (h .isFour))
+
+-- ── writing ──
+
+-- from the engine of a four to its engine at another position
+moved-four : (f : Four) (q : ℕ) → IsFour f → q ≤ limit
+    → moveTo q (record { head = headAt (codeOf (f .cipher)) (f .position); area = tablesOf f })
+    ≡ record { refusal = 0; value = record { head = headAt (codeOf (f .cipher)) q; area = tablesOf (atPosition f q) } }
+unfolding moveTo moveCall move
+moved-four f q h l =
+    let c = f .cipher in
+    let p = f .position in
+    let sized = four-sized f (tablesOf f) h refl in
+    rw (move-accepted c p (length (tablesOf f)) (pos q -ℤ pos p) q sized (h .within) (ends-at p q) l, four-moved f q h)
+
+write-four : (f : Four) (lent : List ℕ) → IsFour f → room (f .cipher) ≤ length lent
+    → writeCall (headAt (codeOf (f .cipher)) (f .position)) (tablesOf f) lent
+    ≡ record {
+      refusal = 0;
+      value = record {
+        head = headAt (codeOf (f .cipher)) (f .position);
+        length = length (checkpointOf f);
+        lent = checkpointOf f ++ drop (length (checkpointOf f)) lent;
+      };
+    }
+unfolding writeCall write checkpointOf
+write-four f lent h l =
+    let c = f .cipher in
+    let sized = four-sized f (tablesOf f) h refl in
+    rw (ready-accepted (codeOf c) (f .position) (length (tablesOf f)) c (code-of c) sized (h .within), le-leb (room c) (length lent) l)
+
+then-write : (f : Four) (lent : List ℕ) → IsFour f → room (f .cipher) ≤ length lent
+    → thenWrite (record { refusal = 0; value = record { head = headAt (codeOf (f .cipher)) (f .position); area = tablesOf f } }) lent
+    ≡ checkpointPut f lent
+then-write f lent h l = rw (write-four f lent h l)
+
+writes : (area lent : List ℕ) (f : Four) → IsFour f → length area ≡ areaLength (f .cipher) → room (f .cipher) ≤ length lent
+    → writtenAt (codeOf (f .cipher)) (f .key) (f .iv) area (f .position) lent ≡ checkpointPut f lent
+unfolding writtenAt startedAt
+writes area lent f h z l =
+    let c = f .cipher in
+    let start = moved-four (atPosition f 0) (f .position) (record { pair = h .pair; within = omega arith }) (h .within) in
+    rw (set-up-is c (f .key) (f .iv) area (h .pair) z, ← at-0 c (f .key) (f .iv), start) (then-write f lent h l)
+
+rewrites : (string area lent : List ℕ) (f : Four) (position : ℕ) → Checkpoint string f → length area ≡ areaLength (f .cipher)
+    → position ≤ limit → room (f .cipher) ≤ length lent
+    → rewrittenAt string area position lent ≡ checkpointPut (atPosition f position) lent
+unfolding rewrittenAt movedTo engineOf
+rewrites string area lent f position h z w l =
+    rw (loaded-accepted string area (loadedOf f) (load-checkpoint string (length area) f h z), moved-four f position (h .isFour) w)
+    (then-write (atPosition f position) lent (record { pair = h .isFour .pair; within = w }) l)
+
+pub from-checkpoint : FromCheckpoint
+from-checkpoint = record {
+  refused-by-load = λ string area. by-load string area (loadCheck string (length area)) refl;
+  cipher-is = cipher-is;
+  opens = opens;
+  as-set-up = as-set-up;
+  deciphers = deciphers;
+  recovers = recovers;
+  writes = writes;
+  rewrites = rewrites;
+}

@@ -1,0 +1,5 @@
+pub mod Words
+pub mod Digits
+pub mod Tasks
+pub mod Advance
+pub mod FromCheckpoint

@@ -1,0 +1,163 @@
+-- A call on what another left, and moves to a position as moves by a distance. Assumes nothing.
+use mathlib.Core.Path.{_≡_, refl, sym, ap, _∙_, subst}
+use mathlib.Core.Bool.{Bool, true, false}
+use mathlib.Core.List.{List}
+use Prim.Native.Nat.{ℕ, zero, suc, _+_, _≤_, _<_}
+use native.Mathlib.Omega.{arith}
+use borrow.Author.Tests.{eq-eqb, ne-eqb, lt-leb}
+use mir.Syntax.{w64}
+use mir.Val.{SFits, toZ, ofZ}
+use mir.ValLaws.{toZ-ofZ, toZ-pos}
+use lib.Dec.{leb, ltb}
+use lib.IntN.{ℤ, pos, negsuc, negℤ, _+ℤ_, _-ℤ_, +ℤ-comm, +ℤ-idl, -ℤ-+ℤ-cancel}
+use lib.ListN.{length, length-append}
+use lib.Seq.{length-take-le}
+use Rattle.cipher.specs.declared.Cipher.{Cipher}
+use Rattle.engine.specs.declared.Head.{Head}
+use Rattle.engine.specs.declared.Done.{Done}
+use Rattle.engine.specs.declared.WriteAnswer.{WriteAnswer}
+use Rattle.engine.specs.declared.LoadAnswer.{LoadAnswer}
+use Rattle.engine.specs.Result.{Result, refused, accepted, Left, left}
+use Rattle.engine.specs.Head.{limit, freshHead}
+use Rattle.engine.specs.Conditions.{ready, endOf}
+use Rattle.engine.specs.Calls.{Engine, setUpCall, moveCall, write, writeCall, recoverCall, loadCall}
+use Rattle.engine.specs.Calls as Calls
+use Rattle.engine.specs.Answers as Answers
+use Rattle.checkpoint.specs.Checkpoint.{layout, room}
+use Rattle.engine.proofs.Calls.{move-refused, move-unreached}
+use Rattle.theorems.proofs.Results.{no-refusal, accepted-one, after-line, after-unless}
+use Rattle.theorems.proofs.Conditions.{ready-shows}
+use Rattle.lab.specs.Tasks as Tasks
+use Rattle.lab.specs.Tasks.{loaded, moveTo, movedTo, opened, startedAt, thenWrite, recoveredFrom}
+
+-- what the code's load from a fresh head leaves
+pub loaded-is : (h : Head) (string area s : List ℕ) (r : LoadAnswer) → h ≡ freshHead → Answers.opened r s ≡ loadCall h string area
+    → record { refusal = r .refusal; value = record { head = r .head; area = s } } ≡ loaded string area
+unfolding loaded
+loaded-is h string area s r f e = rw (← f, ← e)
+
+-- ── moves to a position ──
+
+-- the distance from p to q ends at q
+pub ends-at : (p q : ℕ) → pos p +ℤ (pos q -ℤ pos p) ≡ pos q
+ends-at p q = +ℤ-comm (pos p) (pos q -ℤ pos p) ∙ -ℤ-+ℤ-cancel (pos q) (pos p)
+
+module _ (h : Head) (area : List ℕ) where
+  -- from a position over the limit every distance gives the same refusal
+  over : (d e : ℤ) (r : Result Cipher) → ready (h .code) (h .position) (length area) ≡ r → limit < h .position → moveCall h area d ≡ moveCall h area e
+  over d e (refused n) q l = sym (move-refused h area d n q) ∙ move-refused h area e n q
+  over d e (accepted c) q l =
+      let w = ready-shows (h .code) (h .position) (length area) c q .within-limit in absurd (omega arith)
+
+  pub from-over : (position : ℕ) (d : ℤ) → limit < h .position → moveCall h area d ≡ moveTo position (record { head = h; area = area })
+  unfolding moveTo
+  from-over position d l = over d _ (ready (h .code) (h .position) (length area)) refl l
+
+  -- two distances whose ends pass the limit give the same refusal
+  past : (d e : ℤ) (r : Result Cipher) → ready (h .code) (h .position) (length area) ≡ r → endOf (h .position) d ≡ refused 6
+      → endOf (h .position) e ≡ refused 6 → moveCall h area d ≡ moveCall h area e
+  past d e (refused n) q x y = sym (move-refused h area d n q) ∙ move-refused h area e n q
+  past d e (accepted c) q x y = sym (move-unreached h area d c q 6 x) ∙ move-unreached h area e c q 6 y
+
+  pub to-over : (position n : ℕ) → limit < position → limit < n
+      → moveCall h area (pos n) ≡ moveTo position (record { head = h; area = area })
+  unfolding moveTo endOf
+  to-over position n l m =
+      let p = h .position in
+      past (pos n) (pos position -ℤ pos p) (ready (h .code) p (length area)) refl
+      (rw (lt-leb (p + n) limit (omega arith)))
+      (rw (ends-at p position, lt-leb position limit l))
+
+  pub by-distance : (position : ℕ) (d : ℤ) → d ≡ pos position -ℤ pos (h .position)
+      → moveCall h area d ≡ moveTo position (record { head = h; area = area })
+  unfolding moveTo
+  by-distance position d e = rw e
+
+-- ── distances in 64 bits ──
+
+difference-fits : (a b : ℕ) (t : Bool) → ltb a (suc b) ≡ t → a ≤ limit → b < limit → SFits w64 (pos a +ℤ negsuc b)
+difference-fits a b true e l m = rw e (record { sfits = omega arith })
+difference-fits a b false e l m = rw e (record { sfits = omega arith })
+
+pub distance-fits : (a b : ℕ) → a ≤ limit → b ≤ limit → SFits w64 (toZ w64 a -ℤ toZ w64 b)
+distance-fits a b l m = rw (toZ-pos w64 a (omega arith), toZ-pos w64 b (omega arith)) (go b m)
+  where
+    go : (n : ℕ) → n ≤ limit → SFits w64 (pos a -ℤ pos n)
+    go zero k = record { sfits = omega arith }
+    go (suc n) k = difference-fits a n (ltb a (suc n)) refl l (omega arith)
+
+pub distance-is : (a b : ℕ) → a ≤ limit → b ≤ limit → toZ w64 (ofZ w64 (toZ w64 a -ℤ toZ w64 b)) ≡ pos a -ℤ pos b
+distance-is a b l m = toZ-ofZ w64 _ (distance-fits a b l m) ∙ rw (toZ-pos w64 a (omega arith), toZ-pos w64 b (omega arith))
+
+-- from p back to 0
+pub back-to-0 : (p : ℕ) → pos 0 -ℤ pos p ≡ negℤ (pos p)
+back-to-0 p = +ℤ-idl (negℤ (pos p))
+
+pub opened-is : (string area : List ℕ) → movedTo string area 0 ≡ opened string area
+unfolding movedTo opened moveTo
+opened-is string area = simp back-to-0
+
+-- ── calls on what a set up or a load left ──
+
+module _ (h : Head) (code : ℕ) (key iv area : List ℕ) (position : ℕ) (s : List ℕ) (r : Done) (f : h ≡ freshHead)
+    (e : Answers.done r s ≡ setUpCall h code key iv area) where
+  pub started-refused : (r .refusal ≡ 0 → ⊥) → Answers.done r s ≡ startedAt code key iv area position
+  unfolding startedAt
+  started-refused z = rw (← f, ← e, ne-eqb (r .refusal) 0 z)
+
+  pub started-made : r .refusal ≡ 0 → (m : Left Engine) → m ≡ moveTo position (record { head = r .head; area = s })
+      → m ≡ startedAt code key iv area position
+  unfolding startedAt
+  started-made z m q = rw (← f, ← e, eq-eqb (r .refusal) 0 z) q
+
+module _ (h : Head) (string area : List ℕ) (position : ℕ) (s : List ℕ) (l : LoadAnswer) (f : h ≡ freshHead)
+    (e : Answers.opened l s ≡ loadCall h string area) where
+  pub moved-refused : (l .refusal ≡ 0 → ⊥) → record { refusal = l .refusal; value = record { head = l .head; area = s } } ≡ movedTo string area position
+  unfolding movedTo
+  moved-refused z = rw (← loaded-is h string area s l f e, ne-eqb (l .refusal) 0 z)
+
+  pub moved-made : l .refusal ≡ 0 → (m : Left Engine) → m ≡ moveTo position (record { head = l .head; area = s })
+      → m ≡ movedTo string area position
+  unfolding movedTo
+  moved-made z m q = rw (← loaded-is h string area s l f e, eq-eqb (l .refusal) 0 z) q
+
+-- the lent bytes after a write are at least as many as the checkpoint's
+write-counts : (h : Head) (area lent : List ℕ) (x : Result Calls.Written) → write h area lent ≡ x
+    → let w = left (record { head = h; length = 0; lent = lent }) x .value in w .length ≤ length (w .lent)
+unfolding write
+write-counts h area lent (refused n) e = omega arith
+write-counts h area lent (accepted w) e =
+    after-line (ready (h .code) (h .position) (length area)) _ e (λ _. no-refusal) λ c e₁ r₁.
+    after-unless 8 (leb (room c) (length lent)) _ r₁ no-refusal λ e₂ r₂.
+    let string = layout c (h .position) area in
+    subst (λ (y : Calls.Written). y .length ≤ length (y .lent)) (accepted-one refl r₂)
+    (simp length-append (omega arith))
+
+counts : (n : ℕ) (bytes : List ℕ) → n ≤ length bytes → Tasks.Counts n bytes
+counts n bytes l = (l, sym (length-take-le n bytes l))
+
+module _ (first : Left Engine) (lent : List ℕ) (r : Done) (s : List ℕ) (e : Answers.done r s ≡ first) where
+  pub written-refused : (r .refusal ≡ 0 → ⊥)
+      → (record { refusal = r .refusal; value = record { engine = record { head = r .head; area = s }; length = 0; lent = lent } } ≡ thenWrite first lent)
+      × Tasks.Counts 0 lent
+  written-refused h = (rw (← e, ne-eqb (r .refusal) 0 h), counts 0 lent (omega arith))
+
+  pub written-made : r .refusal ≡ 0 → (w : WriteAnswer) (lent′ : List ℕ) → Answers.written w lent′ ≡ writeCall (r .head) s lent
+      → (Tasks.written w s lent′ ≡ thenWrite first lent) × Tasks.Counts (w .length) lent′
+  unfolding writeCall
+  written-made h w lent′ q = (
+    rw (← e, eq-eqb (r .refusal) 0 h, ← q),
+    counts (w .length) lent′ (rw (ap (λ (y : Left Calls.Written). y .value .length) q, ap (λ (y : Left Calls.Written). y .value .lent) q) (write-counts (r .head) s lent (write (r .head) s lent) refl)),
+  )
+
+module _ (h : Head) (string area key iv s : List ℕ) (l : LoadAnswer) (f : h ≡ freshHead) (e : Answers.opened l s ≡ loadCall h string area) where
+  pub recovered-refused : (l .refusal ≡ 0 → ⊥)
+      → record { refusal = l .refusal; value = record { engine = record { head = l .head; area = s }; key = key; iv = iv } }
+      ≡ recoveredFrom string area key iv
+  unfolding recoveredFrom
+  recovered-refused z = rw (← loaded-is h string area s l f e, ne-eqb (l .refusal) 0 z)
+
+  pub recovered-made : l .refusal ≡ 0 → (r : Done) (key′ iv′ : List ℕ) → Answers.recovered r key′ iv′ ≡ recoverCall (l .head) s key iv
+      → Tasks.recovered r s key′ iv′ ≡ recoveredFrom string area key iv
+  unfolding recoveredFrom
+  recovered-made z r key′ iv′ q = rw (← loaded-is h string area s l f e, eq-eqb (l .refusal) 0 z, ← q)

@@ -1,0 +1,78 @@
+-- A checkpoint of a stream, and nothing else, opens the stream's log from byte 0 and gives its key and IV.
+use mathlib.Core.Path.{_≡_}
+use mathlib.Core.List.{List, _++_}
+use Prim.Native.Nat.{ℕ, _≤_}
+use lib.ListN.{length, drop}
+use Rattle.cipher.specs.Numbers.{codeOf, areaLength, keyLength, ivLength}
+use Rattle.setup.specs.SetUp as SetUp
+use Rattle.checkpoint.specs.Checkpoint.{room}
+use Rattle.engine.specs.Result.{Left}
+use Rattle.engine.specs.Head.{limit, freshHead, headAt}
+use Rattle.engine.specs.Calls.{Engine, Ciphered, setUpCall, cipherCall, loadCall}
+use Rattle.theorems.specs.Account.{Four, IsFour, Checkpoint, tablesOf, checkpointOf}
+use Rattle.lab.specs.Tasks.{Written, cipherOf, opened, writtenAt, rewrittenAt, recoveredFrom}
+
+-- what a cipher call on what is left of another call leaves
+abbrev pub cipherAfter : Left Engine → List ℕ → Left Ciphered
+cipherAfter l bytes = cipherCall (l .value .head) (l .value .area) bytes
+
+-- the same cipher, key and IV at another position
+abbrev pub atPosition : Four → ℕ → Four
+atPosition f position = record { cipher = f .cipher; key = f .key; iv = f .iv; position = position }
+
+-- the engine of a four, and lent bytes that begin with its checkpoint; later bytes stay
+abbrev pub checkpointPut : Four → List ℕ → Left Written
+checkpointPut f lent =
+    record {
+      refusal = 0;
+      value = record {
+        engine = record { head = headAt (codeOf (f .cipher)) (f .position); area = tablesOf f };
+        length = length (checkpointOf f);
+        lent = checkpointOf f ++ drop (length (checkpointOf f)) lent;
+      };
+    }
+
+pub record FromCheckpoint : Type 0 where
+  -- Opening is refused exactly as load is: after an accepted load the move back is never refused.
+  pub refused-by-load : (string area : List ℕ) → opened string area .refusal ≡ loadCall freshHead string area .refusal
+  -- The area is that of the cipher of the checkpoint.
+  pub cipher-is : (string : List ℕ) (f : Four) → Checkpoint string f → cipherOf string ≡ f .cipher
+  -- The checkpoint of any four opens: the head is at position 0, and the tables are those of set-up with that key and IV.
+  pub opens :
+      (string area : List ℕ) (f : Four) → Checkpoint string f → length area ≡ areaLength (f .cipher)
+      → opened string area
+      ≡ record {
+        refusal = 0;
+        value = record { head = headAt (codeOf (f .cipher)) 0; area = SetUp.setUp (f .cipher) (f .key) (f .iv) };
+      }
+  -- So opening it leaves what set up with that key and IV leaves.
+  pub as-set-up :
+      (string area : List ℕ) (f : Four) → Checkpoint string f → length area ≡ areaLength (f .cipher)
+      → opened string area ≡ setUpCall freshHead (codeOf (f .cipher)) (f .key) (f .iv) area
+  -- A log that was enciphered with the key and the IV is deciphered with nothing but the checkpoint.
+  pub deciphers :
+      (string area log : List ℕ) (f : Four) → Checkpoint string f → length area ≡ areaLength (f .cipher)
+      → let enciphered = cipherAfter (setUpCall freshHead (codeOf (f .cipher)) (f .key) (f .iv) area) log .value .bytes in
+      cipherAfter (opened string area) enciphered .value .bytes ≡ log
+  -- The key and the IV are recovered.
+  pub recovers :
+      (string area key iv : List ℕ) (f : Four) → Checkpoint string f → length area ≡ areaLength (f .cipher)
+      → length key ≡ keyLength (f .cipher) → length iv ≡ ivLength (f .cipher)
+      → recoveredFrom string area key iv
+      ≡ record {
+        refusal = 0;
+        value = record {
+          engine = record { head = headAt (codeOf (f .cipher)) (f .position); area = tablesOf f };
+          key = f .key;
+          iv = f .iv;
+        };
+      }
+  -- Written with a key and an IV, the lent bytes begin with the checkpoint of that cipher, key, IV and position.
+  pub writes :
+      (area lent : List ℕ) (f : Four) → IsFour f → length area ≡ areaLength (f .cipher) → room (f .cipher) ≤ length lent
+      → writtenAt (codeOf (f .cipher)) (f .key) (f .iv) area (f .position) lent ≡ checkpointPut f lent
+  -- Written from a checkpoint, they begin with that of the same cipher, key and IV at the other position.
+  pub rewrites :
+      (string area lent : List ℕ) (f : Four) (position : ℕ) → Checkpoint string f → length area ≡ areaLength (f .cipher)
+      → position ≤ limit → room (f .cipher) ≤ length lent
+      → rewrittenAt string area position lent ≡ checkpointPut (atPosition f position) lent

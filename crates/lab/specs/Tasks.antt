@@ -1,0 +1,135 @@
+-- The tasks of the program: calls of the engine, each on what the call before it left. Where a call is refused, its refusal is the answer, and the
+-- calls after it are not made.
+use mathlib.Core.Path.{_≡_}
+use mathlib.Core.Bool.{Bool, cond}
+use mathlib.Core.List.{List, [], _∷_}
+use mathlib.Core.Option.{Option, none, some}
+use Prim.Native.Nat.{ℕ, _+_, _-_, _≤_}
+use lib.Dec.{eqb, ltb}
+use lib.IntN.{ℤ, pos, negsuc, negℤ, _-ℤ_}
+use lib.ListN.{length, take}
+use Rattle.varint.specs.Number.{Found, is, ended, malformed, readNumber}
+use Rattle.cipher.specs.declared.Cipher.{Cipher}
+use Rattle.cipher.specs.declared.Cipher.the-variants.{Hc128, Hc256}
+use Rattle.cipher.specs.Numbers.{codeOf}
+use Rattle.checkpoint.specs.Checkpoint.{mostGroups}
+use Rattle.engine.specs.declared.Done.{Done}
+use Rattle.engine.specs.declared.WriteAnswer.{WriteAnswer}
+use Rattle.engine.specs.Result.{Left}
+use Rattle.engine.specs.Head.{limit, freshHead}
+use Rattle.engine.specs.Calls.{Engine, setUpCall, moveCall, writeCall, recoverCall, loadCall}
+
+-- the cipher whose area a checkpoint is loaded into: HC-128 where its first byte is that cipher's code, else HC-256
+unfoldable pub cipherOf : List ℕ → Cipher
+cipherOf [] = Hc256
+cipherOf (b ∷ string) = cond (eqb b (codeOf Hc128)) Hc128 Hc256
+
+-- the position that a checkpoint states: the number after its first byte
+abbrev pub value : Found → Option ℕ
+value (is n rest) = some n
+value ended = none
+value malformed = none
+
+unfoldable pub positionIn : List ℕ → Option ℕ
+positionIn [] = none
+positionIn (b ∷ string) = value (readNumber mostGroups string)
+
+-- the bytes from one place of a file to another; the difference of two numbers is 0 where the second is larger
+unfoldable pub span : ℤ → ℤ → ℕ
+span (pos here) (pos end) = end - here
+span (pos here) (negsuc end) = 0
+span (negsuc here) (pos end) = 0
+span (negsuc here) (negsuc end) = 0
+
+-- whether n bytes from a position on pass the limit
+abbrev pub passesLimit : ℕ → ℕ → Bool
+passesLimit position n = ltb limit (position + n)
+
+-- an accepted cipher call advances by the number of its bytes, and the end is within the limit
+pub record Advance (position n : ℕ) (r : Done) : Type 0 where
+  pub advanced : r .refusal ≡ 0 → r .head .position ≡ position + n
+  pub within : r .refusal ≡ 0 → position + n ≤ limit
+
+-- what two calls leave, the second on what the first left; `kept` is what is left where the first is refused
+abbrev pub andThen : {A : Type 0} → Left Engine → (Engine → Left A) → (Engine → A) → Left A
+andThen first second kept =
+    cond (eqb (first .refusal) 0) (second (first .value)) (record { refusal = first .refusal; value = kept (first .value) })
+
+-- the engine that a load from a fresh head leaves
+unfoldable pub loaded : (string area : List ℕ) → Left Engine
+loaded string area =
+    record { refusal = loadCall freshHead string area .refusal; value = loadCall freshHead string area .value .engine }
+
+-- the move from where the engine is to a position
+unfoldable pub moveTo : (position : ℕ) → Engine → Left Engine
+moveTo position e = moveCall (e .head) (e .area) (pos position -ℤ pos (e .head .position))
+
+-- load a checkpoint and move to a position
+unfoldable pub movedTo : (string area : List ℕ) (position : ℕ) → Left Engine
+movedTo string area position = andThen (loaded string area) (moveTo position) (λ e. e)
+
+-- load a checkpoint and move back by its position
+unfoldable pub opened : (string area : List ℕ) → Left Engine
+opened string area =
+    andThen (loaded string area) (λ e. moveCall (e .head) (e .area) (negℤ (pos (e .head .position)))) (λ e. e)
+
+-- set up and move to a position
+unfoldable pub startedAt : (code : ℕ) (key iv area : List ℕ) (position : ℕ) → Left Engine
+startedAt code key iv area position = andThen (setUpCall freshHead code key iv area) (moveTo position) (λ e. e)
+
+-- an engine, the length of the checkpoint and the lent bytes that hold it
+pub record Written : Type 0 where
+  pub engine : Engine
+  pub length : ℕ
+  pub lent : List ℕ
+
+-- write on what the calls before left
+abbrev pub thenWrite : Left Engine → List ℕ → Left Written
+thenWrite first lent =
+    andThen first
+    (λ e.
+    let w = writeCall (e .head) (e .area) lent in
+    record {
+      refusal = w .refusal;
+      value = record { engine = record { head = w .value .head; area = e .area }; length = w .value .length; lent = w .value .lent };
+    })
+    (λ e. record { engine = e; length = 0; lent = lent })
+
+-- set up, move to a position and write
+unfoldable pub writtenAt : (code : ℕ) (key iv area : List ℕ) (position : ℕ) (lent : List ℕ) → Left Written
+writtenAt code key iv area position lent = thenWrite (startedAt code key iv area position) lent
+
+-- load a checkpoint, move to a position and write
+unfoldable pub rewrittenAt : (string area : List ℕ) (position : ℕ) (lent : List ℕ) → Left Written
+rewrittenAt string area position lent = thenWrite (movedTo string area position) lent
+
+-- n counts bytes at the start of a list; the second part follows from the first, and is said for the prover, which asks for it
+abbrev pub Counts : ℕ → List ℕ → Type 0
+Counts n bytes = (n ≤ length bytes) × (n ≡ length (take n bytes))
+
+-- an engine, and the buffers of a key and an IV
+pub record Recovered : Type 0 where
+  pub engine : Engine
+  pub key : List ℕ
+  pub iv : List ℕ
+
+-- load a checkpoint and recover its key and IV
+unfoldable pub recoveredFrom : (string area key iv : List ℕ) → Left Recovered
+recoveredFrom string area key iv =
+    andThen (loaded string area)
+    (λ e.
+    let r = recoverCall (e .head) (e .area) key iv in
+    record {
+      refusal = r .refusal;
+      value = record { engine = record { head = r .value .head; area = e .area }; key = r .value .key; iv = r .value .iv };
+    })
+    (λ e. record { engine = e; key = key; iv = iv })
+
+-- what the structs of the code mean, with the contents of the lent slices at exit
+abbrev pub written : WriteAnswer → List ℕ → List ℕ → Left Written
+written r area lent =
+    record { refusal = r .refusal; value = record { engine = record { head = r .head; area = area }; length = r .length; lent = lent } }
+
+abbrev pub recovered : Done → List ℕ → List ℕ → List ℕ → Left Recovered
+recovered r area key iv =
+    record { refusal = r .refusal; value = record { engine = record { head = r .head; area = area }; key = key; iv = iv } }

@@ -1,0 +1,276 @@
+// What the program works out: words and numbers of its command line, and its tasks, which are calls of the engine one after the other. No input
+// and no output.
+ghost use mathlib.Core.Path.{_≡_};
+ghost use lib.ListN.{length};
+ghost use Rattle.engine.specs.Calls as Calls;
+ghost use Rattle.laws.specs.Same.{same};
+ghost use Rattle.engine.specs.Answers as Answers;
+ghost use Rattle.lab.specs.Words as Words;
+ghost use Rattle.lab.specs.Decimal as Decimals;
+ghost use Rattle.lab.specs.Tasks as Tasks;
+use cipher::Cipher;
+use engine::Done;
+use engine::Head;
+use engine::WriteAnswer;
+use varint::Read;
+
+// Whether two words are the same.
+pub fn same(a: &[u8], b: &[u8]) -> bool
+    ensures { λ r. ⌜ r ≡ same (now (a .entry)) (now (b .entry)) ⌝ }
+{
+    check::same(a, b)
+}
+
+// The commands of the program.
+pub enum Command {
+    Cipher,
+    Describe,
+    Recover,
+    Open,
+    At,
+    Write,
+    Help,
+    Unknown,
+}
+
+// The command that a word names.
+pub fn command_of(word: &[u8]) -> Command
+    ensures { λ r. ⌜ r ≡ Words.commandOf (now (word .entry)) ⌝ }
+{
+    if same(word, b"cipher") {
+        return Command::Cipher;
+    }
+    if same(word, b"describe") {
+        return Command::Describe;
+    }
+    if same(word, b"recover") {
+        return Command::Recover;
+    }
+    if same(word, b"open") {
+        return Command::Open;
+    }
+    if same(word, b"at") {
+        return Command::At;
+    }
+    if same(word, b"write") {
+        return Command::Write;
+    }
+    if same(word, b"help") {
+        return Command::Help;
+    }
+    Command::Unknown
+}
+
+// The code of the cipher that a word names, 0 where it names none.
+pub fn cipher_code(word: &[u8]) -> u8
+    ensures { λ r. ⌜ r ≡ Words.cipherCode (now (word .entry)) ⌝ }
+{
+    if same(word, b"hc128") {
+        return 1;
+    }
+    if same(word, b"hc256") {
+        return 2;
+    }
+    0
+}
+
+// What a text is as a number.
+pub enum Number {
+    Is(u64),
+    Not,
+}
+
+// The number that a text spells in decimal.
+pub fn decimal(text: &[u8]) -> Number
+    ensures { λ r. ⌜ Decimals.numberIs r ≡ Decimals.decimal (now (text .entry)) ⌝ }
+{
+    if text.len() == 0 {
+        return Number::Not;
+    }
+    let mut n: u64 = 0;
+    let mut i = 0;
+    while i < text.len() {
+        let b = text[i];
+        if b < b'0' {
+            return Number::Not;
+        }
+        if b'9' < b {
+            return Number::Not;
+        }
+        let d = (b - b'0') as u64;
+        if (u64::MAX - d) / 10 < n {
+            return Number::Not;
+        }
+        n = 10 * n + d;
+        i += 1;
+    }
+    Number::Is(n)
+}
+
+// The cipher whose area a checkpoint is loaded into, by its first byte; HC-256 where that names none, and load then refuses.
+pub fn cipher_of(string: &[u8]) -> Cipher
+    ensures { λ r. ⌜ r ≡ Tasks.cipherOf (now (string .entry)) ⌝ }
+{
+    if string.len() == 0 {
+        return Cipher::Hc256;
+    }
+    if string[0] == 1 {
+        return Cipher::Hc128;
+    }
+    Cipher::Hc256
+}
+
+// The position that a checkpoint states, whether or not it loads.
+pub fn position_in(string: &[u8]) -> Number
+    ensures { λ r. ⌜ Decimals.numberIs r ≡ Tasks.positionIn (now (string .entry)) ⌝ }
+{
+    if string.len() == 0 {
+        return Number::Not;
+    }
+    let read = varint::read_number(string, 1, 4);
+    match read {
+        Read::Number { value, .. } => Number::Is(value),
+        Read::Ended => Number::Not,
+        Read::Malformed => Number::Not,
+    }
+}
+
+// The bytes from one place of a file to another, 0 where the second is not after the first or a place is below 0.
+pub fn span(here: i64, end: i64) -> u64
+    ensures { λ r. ⌜ r ≡ Tasks.span here end ⌝ }
+{
+    if here < 0 {
+        return 0;
+    }
+    if end < here {
+        return 0;
+    }
+    (end - here) as u64
+}
+
+// Whether so many bytes from a position on pass the limit.
+pub fn passes_limit(from: u64, n: u64) -> bool
+    ensures { λ r. ⌜ r ≡ Tasks.passesLimit from n ⌝ }
+{
+    if Head::LIMIT < from {
+        return true;
+    }
+    Head::LIMIT - from < n
+}
+
+// Enciphers or deciphers the next bytes of a log. Where it is accepted, the position grows by their number and stays within the limit.
+pub fn cipher_next(head: Head, area: &mut [u32], bytes: &mut [u8]) -> Done
+    ensures { λ r. ⌜ (Answers.ciphered r (now (area .exit)) (now (bytes .exit)) ≡ Calls.cipherCall head (now (area .entry)) (now (bytes .entry))) × Tasks.Advance (head .position) (length (now (bytes .entry))) r ⌝ }
+{
+    head.cipher(area, bytes)
+}
+
+// Moves an engine to a position.
+pub fn move_to(head: Head, area: &mut [u32], position: u64) -> Done
+    ensures { λ r. ⌜ Answers.done r (now (area .exit)) ≡ Tasks.moveTo position (record { head = head; area = now (area .entry) }) ⌝ }
+{
+    let here = head.position;
+    if Head::LIMIT < here {
+        return head.move_by(area, i64::MAX);
+    }
+    if Head::LIMIT < position {
+        return head.move_by(area, i64::MAX);
+    }
+    head.move_by(area, position as i64 - here as i64)
+}
+
+// Loads a checkpoint and moves to a position.
+pub fn moved_to(string: &[u8], area: &mut [u32], position: u64) -> Done
+    ensures { λ r. ⌜ Answers.done r (now (area .exit)) ≡ Tasks.movedTo (now (string .entry)) (now (area .entry)) position ⌝ }
+{
+    let loaded = Head::fresh().load(area, string);
+    let refusal = loaded.refusal;
+    let head = loaded.head;
+    if refusal != 0 {
+        return Done {
+            refusal: refusal,
+            head: head,
+        };
+    }
+    move_to(head, area, position)
+}
+
+// Loads a checkpoint and moves back to position 0.
+pub fn opened(string: &[u8], area: &mut [u32]) -> Done
+    ensures { λ r. ⌜ Answers.done r (now (area .exit)) ≡ Tasks.opened (now (string .entry)) (now (area .entry)) ⌝ }
+{
+    moved_to(string, area, 0)
+}
+
+// Sets up with a key and an IV and moves to a position.
+pub fn started_at(code: u8, key: &[u8], iv: &[u8], area: &mut [u32], position: u64) -> Done
+    ensures { λ r. ⌜ Answers.done r (now (area .exit)) ≡ Tasks.startedAt code (now (key .entry)) (now (iv .entry)) (now (area .entry)) position ⌝ }
+{
+    let done = Head::fresh().set_up(code, key, iv, area);
+    let refusal = done.refusal;
+    let start = done.head;
+    if refusal != 0 {
+        return Done {
+            refusal: refusal,
+            head: start,
+        };
+    }
+    move_to(start, area, position)
+}
+
+// Sets up with a key and an IV, moves to a position and puts the checkpoint at the start of the lent bytes.
+pub fn written_at(
+    code: u8,
+    key: &[u8],
+    iv: &[u8],
+    area: &mut [u32],
+    position: u64,
+    lent: &mut [u8],
+) -> WriteAnswer
+    ensures { λ r. ⌜ (Tasks.written r (now (area .exit)) (now (lent .exit)) ≡ Tasks.writtenAt code (now (key .entry)) (now (iv .entry)) (now (area .entry)) position (now (lent .entry))) × Tasks.Counts (r .length) (now (lent .exit)) ⌝ }
+{
+    let done = started_at(code, key, iv, area, position);
+    let refusal = done.refusal;
+    let head = done.head;
+    if refusal != 0 {
+        return WriteAnswer {
+            refusal: refusal,
+            length: 0,
+            head: head,
+        };
+    }
+    head.write(area, lent)
+}
+
+// Loads a checkpoint, moves to a position and puts the checkpoint there at the start of the lent bytes.
+pub fn rewritten_at(string: &[u8], area: &mut [u32], position: u64, lent: &mut [u8]) -> WriteAnswer
+    ensures { λ r. ⌜ (Tasks.written r (now (area .exit)) (now (lent .exit)) ≡ Tasks.rewrittenAt (now (string .entry)) (now (area .entry)) position (now (lent .entry))) × Tasks.Counts (r .length) (now (lent .exit)) ⌝ }
+{
+    let done = moved_to(string, area, position);
+    let refusal = done.refusal;
+    let head = done.head;
+    if refusal != 0 {
+        return WriteAnswer {
+            refusal: refusal,
+            length: 0,
+            head: head,
+        };
+    }
+    head.write(area, lent)
+}
+
+// Loads a checkpoint and fills the two buffers with its key and its IV.
+pub fn recovered(string: &[u8], area: &mut [u32], key: &mut [u8], iv: &mut [u8]) -> Done
+    ensures { λ r. ⌜ Tasks.recovered r (now (area .exit)) (now (key .exit)) (now (iv .exit)) ≡ Tasks.recoveredFrom (now (string .entry)) (now (area .entry)) (now (key .entry)) (now (iv .entry)) ⌝ }
+{
+    let found = Head::fresh().load(area, string);
+    let refusal = found.refusal;
+    let head = found.head;
+    if refusal != 0 {
+        return Done {
+            refusal: refusal,
+            head: head,
+        };
+    }
+    head.recover(area, key, iv)
+}
