@@ -1,12 +1,15 @@
 -- What a checkpoint alone gives: what load accepts is moved back to the tables of set-up. Assumes nothing.
 use mathlib.Core.Path.{_≡_, refl, sym, ap, _∙_, subst}
-use mathlib.Core.List.{List, [], _∷_, _++_}
-use Prim.Native.Nat.{ℕ, suc, _≤_}
+use mathlib.Core.List.{List, [], _∷_, _++_, flatten}
+use Prim.Native.Nat.{ℕ, suc, _+_, _≤_}
+use native.Mathlib.Nat.{add-zero, add-suc, suc-add}
 use native.Mathlib.Omega.{arith}
 use borrow.Author.Tests.{eq-eqb, ne-eqb, le-leb}
 use lib.IntN.{pos, negℤ, _-ℤ_, +ℤ-invr}
-use lib.ListN.{length, drop}
+use lib.ListN.{length, drop, length-append}
 use Rattle.laws.specs.Iterate.{forward}
+use Rattle.laws.proofs.Iterate.{forward-none, forward-first}
+use Rattle.word.specs.Word.{_⊕_}
 use Rattle.word.specs.Bytes.{words}
 use Rattle.word.proofs.Bytes.{length-words}
 use Rattle.word.proofs.Laws.{xor-xor}
@@ -14,12 +17,15 @@ use Rattle.cipher.specs.declared.Cipher.{Cipher}
 use Rattle.cipher.specs.declared.Cipher.the-variants.{Hc128, Hc256}
 use Rattle.cipher.specs.Numbers.{codeOf, areaLength, keyLength, ivLength}
 use Rattle.cipher.proofs.Codes.{code-of}
+use Rattle.tables.specs.Area.{Area}
 use Rattle.schedule.specs.Key.{Pair}
 use Rattle.keystream.specs.Steps.{moved}
-use Rattle.keystream.specs.Keystream.{ciphered, tablesNext, keyByte}
+use Rattle.keystream.specs.Keystream.{ciphered, tablesNext, tablesAfter, keyByte}
 use Rattle.keystream.proofs.Ciphered.{length-ciphered}
+use Rattle.keystream.proofs.Positions.{moved-on}
 use Rattle.setup.specs.SetUp as SetUp
 use Rattle.setup.specs.SetUp.{found}
+use Rattle.setup.proofs.Inverse.{set-up-area}
 use Rattle.checkpoint.specs.Checkpoint.{layout, room}
 use Rattle.engine.specs.declared.Head.{Head}
 use Rattle.engine.specs.Result.{Result, refused, accepted, Left}
@@ -31,9 +37,9 @@ use Rattle.theorems.specs.Account.{Four, IsFour, Checkpoint, tablesOf, checkpoi
 use Rattle.theorems.proofs.Results.{no-refusal, accepted-one, after-line}
 use Rattle.theorems.proofs.Conditions.{accepted-only, load-passed, move-accepted, recover-finds}
 use Rattle.theorems.proofs.Checkpoints.{loadedOf, load-checkpoint}
-use Rattle.theorems.proofs.Tables.{four-sized, four-moved, undo-finds}
+use Rattle.theorems.proofs.Tables.{moved-area, four-sized, four-moved, undo-finds}
 use Rattle.lab.specs.Tasks.{cipherOf, loaded, moveTo, movedTo, opened, startedAt, thenWrite, writtenAt, rewrittenAt, recoveredFrom}
-use Rattle.lab.specs.FromCheckpoint.{cipherAfter, atPosition, checkpointPut, FromCheckpoint}
+use Rattle.lab.specs.FromCheckpoint.{cipherAfter, streamed, atPosition, checkpointPut, FromCheckpoint}
 use Rattle.lab.proofs.Advance.{load-not-0}
 use Rattle.lab.proofs.Tasks.{ends-at}
 
@@ -154,6 +160,56 @@ deciphers string area log f h z =
     let e = setUpCall freshHead (codeOf (f .cipher)) (f .key) (f .iv) area .value in
     rw (as-set-up string area f h z) (twice (e .head) (e .area) log _ refl)
 
+-- ── in parts ──
+
+nothing : (c : Cipher) (s : List ℕ) (p : ℕ) → [] ≡ ciphered c s p []
+unfolding ciphered
+nothing c s p = refl
+
+ciphered-parts : (c : Cipher) (s : List ℕ) (p : ℕ) (a b : List ℕ)
+    → ciphered c s p (a ++ b) ≡ ciphered c s p a ++ ciphered c (tablesAfter c s p (length a)) (p + length a) b
+unfolding ciphered
+ciphered-parts c s p [] b = rw (forward-none (tablesNext c) s p, add-zero p)
+ciphered-parts c s p (x ∷ a) b =
+    rw (forward-first (tablesNext c) s p (length a), add-suc p (length a), ← suc-add p (length a))
+    (ap (λ (l : List ℕ). (x ⊕ keyByte c (tablesNext c s p) p) ∷ l) (ciphered-parts c (tablesNext c s p) (suc p) a b))
+
+cipher-call-is : (c : Cipher) (p : ℕ) (s bytes : List ℕ) → length s ≡ areaLength c → p + length bytes ≤ limit
+    → cipherCall (headAt (codeOf c) p) s bytes
+    ≡ record {
+      refusal = 0;
+      value = record {
+        engine = record { head = headAt (codeOf c) (p + length bytes); area = moved c s p (p + length bytes) };
+        bytes = ciphered c s p bytes;
+      };
+    }
+unfolding cipherCall cipher cipherCheck
+cipher-call-is c p s bytes z l =
+    rw (ready-accepted (codeOf c) p (length s) c (code-of c) z (omega arith), le-leb (p + length bytes) limit l)
+
+streamed-is : (c : Cipher) (p : ℕ) (s : List ℕ) (parts : List (List ℕ)) → Area c s → p + length (flatten parts) ≤ limit
+    → streamed (record { head = headAt (codeOf c) p; area = s }) parts ≡ ciphered c s p (flatten parts)
+unfolding streamed flatten
+streamed-is c p s [] area l = nothing c s p
+streamed-is c p s (part ∷ parts) area l =
+    let n = length part in
+    let sum : p + (n + length (flatten parts)) ≤ limit = rw (length-append part (flatten parts)) at l in
+    let rest = streamed-is c (p + n) (moved c s p (p + n)) parts (moved-area c s area p (p + n)) (omega arith) in
+    rw (cipher-call-is c p s part (area .sized) (omega arith), rest, moved-on c s p n, ciphered-parts c s p part (flatten parts))
+
+in-parts : (string area log : List ℕ) (parts : List (List ℕ)) (f : Four) → Checkpoint string f → length area ≡ areaLength (f .cipher)
+    → length log ≤ limit
+    → flatten parts ≡ cipherAfter (setUpCall freshHead (codeOf (f .cipher)) (f .key) (f .iv) area) log .value .bytes
+    → streamed (opened string area .value) parts ≡ log
+in-parts string area log parts f h z l e =
+    let c = f .cipher in
+    let s = SetUp.setUp c (f .key) (f .iv) in
+    let ready = set-up-area c (f .key) (f .iv) (h .isFour .pair) in
+    let enciphered : flatten parts ≡ ciphered c s 0 log =
+    e ∙ rw (set-up-is c (f .key) (f .iv) area (h .isFour .pair) z, cipher-call-is c 0 s log (ready .sized) (omega arith)) in
+    let long : length (flatten parts) ≡ length log = ap length enciphered ∙ length-ciphered c s 0 log in
+    rw (opens string area f h z, streamed-is c 0 s parts ready (omega arith), enciphered) (ciphered-twice c s 0 log)
+
 -- ── recovering ──
 
 undo-four : (f : Four) → IsFour f → undoAt (f .cipher) (tablesOf f) (f .position) ≡ found (f .key) (f .iv)
@@ -239,6 +295,7 @@ from-checkpoint = record {
   opens = opens;
   as-set-up = as-set-up;
   deciphers = deciphers;
+  in-parts = in-parts;
   recovers = recovers;
   writes = writes;
   rewrites = rewrites;

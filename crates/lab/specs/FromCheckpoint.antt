@@ -1,6 +1,6 @@
 -- A checkpoint of a stream, and nothing else, opens the stream's log from byte 0 and gives its key and IV.
 use mathlib.Core.Path.{_≡_}
-use mathlib.Core.List.{List, _++_}
+use mathlib.Core.List.{List, [], _∷_, _++_, flatten}
 use Prim.Native.Nat.{ℕ, _≤_}
 use lib.ListN.{length, drop}
 use Rattle.cipher.specs.Numbers.{codeOf, areaLength, keyLength, ivLength}
@@ -15,6 +15,12 @@ use Rattle.lab.specs.Tasks.{Written, cipherOf, opened, writtenAt, rewrit
 -- what a cipher call on what is left of another call leaves
 abbrev pub cipherAfter : Left Engine → List ℕ → Left Ciphered
 cipherAfter l bytes = cipherCall (l .value .head) (l .value .area) bytes
+
+-- what is written of bytes that come in parts: each part is ciphered on what the one before left
+unfoldable pub streamed : Engine → List (List ℕ) → List ℕ
+streamed e [] = []
+streamed e (part ∷ parts) =
+    cipherCall (e .head) (e .area) part .value .bytes ++ streamed (cipherCall (e .head) (e .area) part .value .engine) parts
 
 -- the same cipher, key and IV at another position
 abbrev pub atPosition : Four → ℕ → Four
@@ -49,11 +55,17 @@ pub record FromCheckpoint : Type 0 where
   pub as-set-up :
       (string area : List ℕ) (f : Four) → Checkpoint string f → length area ≡ areaLength (f .cipher)
       → opened string area ≡ setUpCall freshHead (codeOf (f .cipher)) (f .key) (f .iv) area
-  -- A log that was enciphered with the key and the IV is deciphered with nothing but the checkpoint.
+  -- A log that was enciphered with the key and the IV is deciphered with nothing but the checkpoint; one that passes the limit both calls leave.
   pub deciphers :
       (string area log : List ℕ) (f : Four) → Checkpoint string f → length area ≡ areaLength (f .cipher)
       → let enciphered = cipherAfter (setUpCall freshHead (codeOf (f .cipher)) (f .key) (f .iv) area) log .value .bytes in
       cipherAfter (opened string area) enciphered .value .bytes ≡ log
+  -- So it is where the enciphered log comes in parts of any lengths.
+  pub in-parts :
+      (string area log : List ℕ) (parts : List (List ℕ)) (f : Four) → Checkpoint string f → length area ≡ areaLength (f .cipher)
+      → length log ≤ limit
+      → flatten parts ≡ cipherAfter (setUpCall freshHead (codeOf (f .cipher)) (f .key) (f .iv) area) log .value .bytes
+      → streamed (opened string area .value) parts ≡ log
   -- The key and the IV are recovered.
   pub recovers :
       (string area key iv : List ℕ) (f : Four) → Checkpoint string f → length area ≡ areaLength (f .cipher)
