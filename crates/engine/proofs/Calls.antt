@@ -1,4 +1,4 @@
--- What is left after a call, by the outcome of its conditions. Assumes nothing.
+-- What a call leaves, by the outcome of its conditions. Assumes nothing.
 use mathlib.Core.Path.{_≡_, _∙_}
 use mathlib.Core.Bool.{true, false}
 use mathlib.Core.List.{List, _++_}
@@ -25,74 +25,75 @@ use Rattle.setup.proofs.Inverse.{undo-not-filled, undo-filled}
 use Rattle.checkpoint.specs.Checkpoint.{layout, room}
 use Rattle.recovery.specs.Recovery.{filledAt}
 use Rattle.engine.specs.declared.Head.{Head}
-use Rattle.engine.specs.Result.{refused, accepted, left}
-use Rattle.engine.specs.Head.{limit, headAt}
-use Rattle.engine.specs.Conditions.{setUpCheck, ready, cipherCheck, endOf, moveCheck, undoAt, recoverCheck, loadFound, loadCheck}
-use Rattle.engine.specs.Calls.{setUp, setUpCall, cipher, cipherCall, move, moveCall, write, writeCall, recover, recoverCall, eightWords, load, loadCall, spent, spentCall}
+use Rattle.conditions.specs.Result.{refused, accepted, outcome}
+use Rattle.conditions.specs.Limit.{limit}
+use Rattle.engine.specs.Head.{headAt}
+use Rattle.conditions.specs.Conditions.{setUpCheck, ready, cipherCheck, endOf, moveCheck, undoAt, recoverCheck, loadFound, loadCheck}
+use Rattle.engine.specs.Calls.{engineOf, setUp, setUpCall, cipher, cipherCall, move, moveCall, write, writeCall, recover, recoverCall, eightWords, load, loadCall}
 
 module _ (h : Head) (code : ℕ) (key iv area : List ℕ) where
   pub set-up-refused : (n : ℕ) → setUpCheck code (length key) (length iv) (length area) ≡ refused n
-      → record { refusal = n; value = record { head = h; area = area } } ≡ setUpCall h code key iv area
+      → record { refusal = n; value = engineOf h area } ≡ setUpCall h code key iv area
   unfolding setUpCall setUp
   set-up-refused n e = rw e
 
   pub set-up-done : (c : Cipher) (new : Head) (s : List ℕ) → setUpCheck code (length key) (length iv) (length area) ≡ accepted c
       → new ≡ headAt code 0 → s ≡ SetUp.setUp c key iv
-      → record { refusal = 0; value = record { head = new; area = s } } ≡ setUpCall h code key iv area
+      → record { refusal = 0; value = engineOf new s } ≡ setUpCall h code key iv area
   unfolding setUpCall setUp
   set-up-done c new s e p q = rw (e, p, q)
 
 module _ (h : Head) (area bytes : List ℕ) where
   pub cipher-refused : (n : ℕ) → ready (h .code) (h .position) (length area) ≡ refused n
-      → record { refusal = n; value = record { engine = record { head = h; area = area }; bytes = bytes } } ≡ cipherCall h area bytes
+      → record { refusal = n; value = record { engine = engineOf h area; bytes = bytes } } ≡ cipherCall h area bytes
   unfolding cipherCall cipher cipherCheck
   cipher-refused n e = rw e
 
   module _ (c : Cipher) (e : ready (h .code) (h .position) (length area) ≡ accepted c) where
     pub cipher-past : limit < h .position + length bytes
-        → record { refusal = 6; value = record { engine = record { head = h; area = area }; bytes = bytes } } ≡ cipherCall h area bytes
+        → record { refusal = 6; value = record { engine = engineOf h area; bytes = bytes } } ≡ cipherCall h area bytes
     unfolding cipherCall cipher cipherCheck
     cipher-past l = rw (e, lt-leb (h .position + length bytes) limit l)
 
     pub cipher-done : (new : Head) (s bs : List ℕ) → h .position + length bytes ≤ limit → new ≡ headAt (h .code) (h .position + length bytes)
         → s ≡ tablesAfter c area (h .position) (length bytes) → bs ≡ ciphered c area (h .position) bytes
-        → record { refusal = 0; value = record { engine = record { head = new; area = s }; bytes = bs } } ≡ cipherCall h area bytes
+        → record { refusal = 0; value = record { engine = engineOf new s; bytes = bs } } ≡ cipherCall h area bytes
     unfolding cipherCall cipher cipherCheck
     cipher-done new s bs l p q w =
         rw (e, le-leb (h .position + length bytes) limit l, p, q, w, moved-on c area (h .position) (length bytes))
 
 module _ (h : Head) (area : List ℕ) (d : ℤ) where
   pub move-refused : (n : ℕ) → ready (h .code) (h .position) (length area) ≡ refused n
-      → record { refusal = n; value = record { head = h; area = area } } ≡ moveCall h area d
+      → record { refusal = n; value = engineOf h area } ≡ moveCall h area d
   unfolding moveCall move moveCheck
   move-refused n e = rw e
 
   module _ (c : Cipher) (e : ready (h .code) (h .position) (length area) ≡ accepted c) where
     pub move-unreached : (n : ℕ) → endOf (h .position) d ≡ refused n
-        → record { refusal = n; value = record { head = h; area = area } } ≡ moveCall h area d
+        → record { refusal = n; value = engineOf h area } ≡ moveCall h area d
     unfolding moveCall move moveCheck
     move-unreached n x = rw (e, x)
 
     pub move-done : (q : ℕ) (new : Head) (s : List ℕ) → endOf (h .position) d ≡ accepted q → new ≡ headAt (h .code) q
-        → s ≡ moved c area (h .position) q → record { refusal = 0; value = record { head = new; area = s } } ≡ moveCall h area d
+        → s ≡ moved c area (h .position) q → record { refusal = 0; value = engineOf new s } ≡ moveCall h area d
     unfolding moveCall move moveCheck
     move-done q new s x p w = rw (e, x, p, w)
 
 module _ (h : Head) (area lent : List ℕ) where
   pub write-refused : (n : ℕ) → ready (h .code) (h .position) (length area) ≡ refused n
-      → record { refusal = n; value = record { head = h; length = 0; lent = lent } } ≡ writeCall h area lent
+      → record { refusal = n; value = record { engine = engineOf h area; length = 0; lent = lent } } ≡ writeCall h area lent
   unfolding writeCall write
   write-refused n e = rw e
 
   module _ (c : Cipher) (e : ready (h .code) (h .position) (length area) ≡ accepted c) where
     pub write-small : length lent < room c
-        → record { refusal = 8; value = record { head = h; length = 0; lent = lent } } ≡ writeCall h area lent
+        → record { refusal = 8; value = record { engine = engineOf h area; length = 0; lent = lent } } ≡ writeCall h area lent
     unfolding writeCall write
     write-small l = rw (e, lt-leb (room c) (length lent) l)
 
     pub write-done : (n : ℕ) (lent′ : List ℕ) → room c ≤ length lent → n ≡ length (layout c (h .position) area)
         → lent′ ≡ layout c (h .position) area ++ drop (length (layout c (h .position) area)) lent
-        → record { refusal = 0; value = record { head = h; length = n; lent = lent′ } } ≡ writeCall h area lent
+        → record { refusal = 0; value = record { engine = engineOf h area; length = n; lent = lent′ } } ≡ writeCall h area lent
     unfolding writeCall write
     write-done n lent′ l p q = rw (e, le-leb (room c) (length lent) l, p, q)
 
@@ -109,31 +110,31 @@ module _ (c : Cipher) (s : List ℕ) (position : ℕ) where
 
 module _ (h : Head) (area key iv : List ℕ) where
   pub recover-refused : (n : ℕ) → ready (h .code) (h .position) (length area) ≡ refused n
-      → record { refusal = n; value = record { head = h; key = key; iv = iv } } ≡ recoverCall h area key iv
+      → record { refusal = n; value = record { engine = engineOf h area; key = key; iv = iv } } ≡ recoverCall h area key iv
   unfolding recoverCall recover recoverCheck
   recover-refused n e = rw e
 
   module _ (c : Cipher) (e : ready (h .code) (h .position) (length area) ≡ accepted c) where
     pub recover-key : (length key ≡ keyLength c → ⊥)
-        → record { refusal = 2; value = record { head = h; key = key; iv = iv } } ≡ recoverCall h area key iv
+        → record { refusal = 2; value = record { engine = engineOf h area; key = key; iv = iv } } ≡ recoverCall h area key iv
     unfolding recoverCall recover recoverCheck
     recover-key k = rw (e, ne-eqb (length key) (keyLength c) k)
 
     pub recover-iv : length key ≡ keyLength c → (length iv ≡ ivLength c → ⊥)
-        → record { refusal = 3; value = record { head = h; key = key; iv = iv } } ≡ recoverCall h area key iv
+        → record { refusal = 3; value = record { engine = engineOf h area; key = key; iv = iv } } ≡ recoverCall h area key iv
     unfolding recoverCall recover recoverCheck
     recover-iv k v = rw (e, eq-eqb (length key) (keyLength c) k, ne-eqb (length iv) (ivLength c) v)
 
     module _ (k : length key ≡ keyLength c) (v : length iv ≡ ivLength c) where
       pub recover-none : isFilled c (filledAt c area (h .position)) ≡ false
-          → record { refusal = 12; value = record { head = h; key = key; iv = iv } } ≡ recoverCall h area key iv
+          → record { refusal = 12; value = record { engine = engineOf h area; key = key; iv = iv } } ≡ recoverCall h area key iv
       unfolding recoverCall recover recoverCheck
       recover-none f =
           rw (e, eq-eqb (length key) (keyLength c) k, eq-eqb (length iv) (ivLength c) v, none-at c area (h .position) f)
 
       pub recover-done : (key′ iv′ : List ℕ) → isFilled c (filledAt c area (h .position)) ≡ true
           → key′ ≡ keyOf c (origin c (filledAt c area (h .position))) → iv′ ≡ ivOf c (origin c (filledAt c area (h .position)))
-          → record { refusal = 0; value = record { head = h; key = key′; iv = iv′ } } ≡ recoverCall h area key iv
+          → record { refusal = 0; value = record { engine = engineOf h area; key = key′; iv = iv′ } } ≡ recoverCall h area key iv
       unfolding recoverCall recover recoverCheck
       recover-done key′ iv′ f p q =
           rw (e, eq-eqb (length key) (keyLength c) k, eq-eqb (length iv) (ivLength c) v, found-at c area (h .position) f, p, q)
@@ -163,7 +164,7 @@ module _ (h : Head) (string area : List ℕ) where
   pub load-refused : (n : ℕ) → loadCheck string (length area) ≡ refused n
       → record {
         refusal = n;
-        value = record { engine = record { head = h; area = area }; key = replicate 8 0; iv = replicate 8 0 };
+        value = record { engine = engineOf h area; key = replicate 8 0; iv = replicate 8 0 };
       }
       ≡ loadCall h string area
   unfolding loadCall load
@@ -173,7 +174,7 @@ module _ (h : Head) (string area : List ℕ) where
     pub load-none : isFilled c (filledAt c (words rest) position) ≡ false
         → record {
           refusal = 12;
-          value = record { engine = record { head = h; area = area }; key = replicate 8 0; iv = replicate 8 0 };
+          value = record { engine = engineOf h area; key = replicate 8 0; iv = replicate 8 0 };
         }
         ≡ loadCall h string area
     load-none f = load-refused 12 (e ∙ rw (none-at c (words rest) position f))
@@ -182,16 +183,6 @@ module _ (h : Head) (string area : List ℕ) where
         → new ≡ headAt (codeOf c) position → s ≡ words rest
         → key ≡ eightWords (keyOf c (origin c (filledAt c (words rest) position)))
         → iv ≡ eightWords (ivOf c (origin c (filledAt c (words rest) position)))
-        → record { refusal = 0; value = record { engine = record { head = new; area = s }; key = key; iv = iv } } ≡ loadCall h string area
+        → record { refusal = 0; value = record { engine = engineOf new s; key = key; iv = iv } } ≡ loadCall h string area
     unfolding loadCall load
     load-done new s key iv f p q k v = rw (e, found-at c (words rest) position f, p, q, k, v)
-
-module _ (h : Head) where
-  pub spent-refused : (n : ℕ) → spent h ≡ refused n → record { refusal = n; value = record { head = h; count = 0 } } ≡ spentCall h
-  unfolding spentCall
-  spent-refused n e = rw e
-
-  pub spent-done : spent h ≡ accepted (record { head = h; count = h .position })
-      → record { refusal = 0; value = record { head = h; count = h .position } } ≡ spentCall h
-  unfolding spentCall
-  spent-done e = rw e

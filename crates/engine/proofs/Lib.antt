@@ -1,5 +1,2 @@
-pub mod Conditions
-pub mod Checks
 pub mod Calls
-pub mod Ends
-pub mod Openings
+pub mod Spent

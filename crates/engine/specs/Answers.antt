@@ -1,34 +1,43 @@
--- What the structs that the calls return mean, with the contents of the lent slices at exit.
+-- What a call leaves, as the outcome that its definition speaks of: the answer, the next head, and the contents of the area and of the lent slices.
 use mathlib.Core.List.{List}
 use Prim.Native.Nat.{ℕ}
-use Rattle.engine.specs.declared.Done.{Done}
-use Rattle.engine.specs.declared.WriteAnswer.{WriteAnswer}
-use Rattle.engine.specs.declared.LoadAnswer.{LoadAnswer}
-use Rattle.engine.specs.declared.SpentAnswer.{SpentAnswer}
-use Rattle.engine.specs.Result.{Left}
-use Rattle.engine.specs.Calls.{Engine, Ciphered, Written, Recovered, Opened, Counted}
+use Rattle.conditions.specs.Result.{Outcome}
+use Rattle.engine.specs.declared.Head.{Head}
+use Rattle.engine.specs.declared.answers.WriteAnswer.{WriteAnswer}
+use Rattle.engine.specs.declared.answers.LoadAnswer.{LoadAnswer}
+use Rattle.engine.specs.declared.answers.SpentAnswer.{SpentAnswer}
+use Rattle.engine.specs.Calls.{Engine, Ciphered, Written, Recovered, Loaded, Counted}
 
 -- set up and move
-abbrev pub done : Done → List ℕ → Left Engine
-done r area = record { refusal = r .refusal; value = record { head = r .head; area = area } }
+abbrev pub done : (refusal : ℕ) (head : Head) (area : List ℕ) → Outcome Engine
+done refusal head area = record { refusal = refusal; value = record { head = head; area = area } }
 
 -- cipher
-abbrev pub ciphered : Done → List ℕ → List ℕ → Left Ciphered
-ciphered r area bytes = record { refusal = r .refusal; value = record { engine = record { head = r .head; area = area }; bytes = bytes } }
-
--- recover
-abbrev pub recovered : Done → List ℕ → List ℕ → Left Recovered
-recovered r key iv = record { refusal = r .refusal; value = record { head = r .head; key = key; iv = iv } }
+abbrev pub ciphered : (refusal : ℕ) (head : Head) (area bytes : List ℕ) → Outcome Ciphered
+ciphered refusal head area bytes =
+    record { refusal = refusal; value = record { engine = record { head = head; area = area }; bytes = bytes } }
 
 -- write
-abbrev pub written : WriteAnswer → List ℕ → Left Written
-written r lent = record { refusal = r .refusal; value = record { head = r .head; length = r .length; lent = lent } }
+abbrev pub written : WriteAnswer → (head : Head) (area lent : List ℕ) → Outcome Written
+written answer head area lent =
+    record {
+      refusal = answer .refusal;
+      value = record { engine = record { head = head; area = area }; length = answer .length; lent = lent };
+    }
+
+-- recover
+abbrev pub recovered : (refusal : ℕ) (head : Head) (area key iv : List ℕ) → Outcome Recovered
+recovered refusal head area key iv =
+    record { refusal = refusal; value = record { engine = record { head = head; area = area }; key = key; iv = iv } }
 
 -- load
-abbrev pub opened : LoadAnswer → List ℕ → Left Opened
-opened r area =
-    record { refusal = r .refusal; value = record { engine = record { head = r .head; area = area }; key = r .key; iv = r .iv } }
+abbrev pub loaded : LoadAnswer → (head : Head) (area : List ℕ) → Outcome Loaded
+loaded answer head area =
+    record {
+      refusal = answer .refusal;
+      value = record { engine = record { head = head; area = area }; key = answer .key; iv = answer .iv };
+    }
 
 -- spent
-abbrev pub counted : SpentAnswer → Left Counted
-counted r = record { refusal = r .refusal; value = record { head = r .head; count = r .count } }
+abbrev pub counted : SpentAnswer → (head : Head) → Outcome Counted
+counted answer head = record { refusal = answer .refusal; value = record { head = head; count = answer .count } }

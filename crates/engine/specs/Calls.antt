@@ -1,5 +1,5 @@
 -- The seven calls of document 01, as definitions of their inputs. Each has its result, which is the refusal or what an accepted call gives, and
--- what is left after it, refused or not: head and every lent list.
+-- its outcome, which says what it leaves, refused or not: head, area and every lent list.
 use mathlib.Core.List.{List, _++_}
 use Prim.Native.Nat.{ℕ, _+_, _-_}
 use lib.Dec.{leb}
@@ -11,24 +11,28 @@ use Rattle.keystream.specs.Steps.{moved}
 use Rattle.keystream.specs.Keystream.{ciphered}
 use Rattle.setup.specs.SetUp as SetUp
 use Rattle.checkpoint.specs.Checkpoint.{layout, room}
+use Rattle.conditions.specs.Result.{Result, accepted, Outcome, outcome, _>>=_, _>>_, refuse_unless_, refuse_without_}
+use Rattle.conditions.specs.Limit.{limit}
+use Rattle.conditions.specs.Conditions.{setUpCheck, ready, cipherCheck, moveCheck, recoverCheck, loadCheck}
 use Rattle.engine.specs.declared.Head.{Head}
-use Rattle.engine.specs.Result.{Result, accepted, Left, left, _>>=_, _>>_, refuse_unless_, refuse_without_}
-use Rattle.engine.specs.Head.{limit, headAt}
-use Rattle.engine.specs.Conditions.{setUpCheck, ready, cipherCheck, moveCheck, recoverCheck, loadCheck}
+use Rattle.engine.specs.Head.{headAt}
 
 -- a head and its table area
 pub record Engine : Type 0 where
   pub head : Head
   pub area : List ℕ
 
+abbrev pub engineOf : Head → List ℕ → Engine
+engineOf head area = record { head = head; area = area }
+
 -- **Set up** takes cipher code, key, IV and area; the position becomes 0.
 unfoldable pub setUp : (code : ℕ) (key iv area : List ℕ) → Result Engine
 setUp code key iv area = do
   c ← setUpCheck code (length key) (length iv) (length area)
-  accepted (record { head = headAt code 0; area = SetUp.setUp c key iv })
+  accepted (engineOf (headAt code 0) (SetUp.setUp c key iv))
 
-unfoldable pub setUpCall : (head : Head) (code : ℕ) (key iv area : List ℕ) → Left Engine
-setUpCall h code key iv area = left (record { head = h; area = area }) (setUp code key iv area)
+unfoldable pub setUpCall : (head : Head) (code : ℕ) (key iv area : List ℕ) → Outcome Engine
+setUpCall h code key iv area = outcome (engineOf h area) (setUp code key iv area)
 
 pub record Ciphered : Type 0 where
   pub engine : Engine
@@ -41,24 +45,24 @@ cipher h area bytes = do
   let end = h .position + length bytes
   accepted
       (record {
-        engine = record { head = headAt (h .code) end; area = moved c area (h .position) end };
+        engine = engineOf (headAt (h .code) end) (moved c area (h .position) end);
         bytes = ciphered c area (h .position) bytes;
       })
 
-unfoldable pub cipherCall : (head : Head) (area bytes : List ℕ) → Left Ciphered
-cipherCall h area bytes = left (record { engine = record { head = h; area = area }; bytes = bytes }) (cipher h area bytes)
+unfoldable pub cipherCall : (head : Head) (area bytes : List ℕ) → Outcome Ciphered
+cipherCall h area bytes = outcome (record { engine = engineOf h area; bytes = bytes }) (cipher h area bytes)
 
 -- **Move** takes a signed 64-bit distance in bytes.
 unfoldable pub move : (head : Head) (area : List ℕ) (distance : ℤ) → Result Engine
 move h area distance = do
   m ← moveCheck (h .code) (h .position) (length area) distance
-  accepted (record { head = headAt (h .code) (m .end); area = moved (m .cipher) area (h .position) (m .end) })
+  accepted (engineOf (headAt (h .code) (m .end)) (moved (m .cipher) area (h .position) (m .end)))
 
-unfoldable pub moveCall : (head : Head) (area : List ℕ) (distance : ℤ) → Left Engine
-moveCall h area distance = left (record { head = h; area = area }) (move h area distance)
+unfoldable pub moveCall : (head : Head) (area : List ℕ) (distance : ℤ) → Outcome Engine
+moveCall h area distance = outcome (engineOf h area) (move h area distance)
 
 pub record Written : Type 0 where
-  pub head : Head
+  pub engine : Engine
   pub length : ℕ
   pub lent : List ℕ
 
@@ -68,13 +72,13 @@ write h area lent = do
   c ← ready (h .code) (h .position) (length area)
   refuse 8 unless leb (room c) (length lent)
   let string = layout c (h .position) area
-  accepted (record { head = h; length = length string; lent = string ++ drop (length string) lent })
+  accepted (record { engine = engineOf h area; length = length string; lent = string ++ drop (length string) lent })
 
-unfoldable pub writeCall : (head : Head) (area lent : List ℕ) → Left Written
-writeCall h area lent = left (record { head = h; length = 0; lent = lent }) (write h area lent)
+unfoldable pub writeCall : (head : Head) (area lent : List ℕ) → Outcome Written
+writeCall h area lent = outcome (record { engine = engineOf h area; length = 0; lent = lent }) (write h area lent)
 
 pub record Recovered : Type 0 where
-  pub head : Head
+  pub engine : Engine
   pub key : List ℕ
   pub iv : List ℕ
 
@@ -82,35 +86,34 @@ pub record Recovered : Type 0 where
 unfoldable pub recover : (head : Head) (area key iv : List ℕ) → Result Recovered
 recover h area key iv = do
   pair ← recoverCheck (h .code) (h .position) area (length key) (length iv)
-  accepted (record { head = h; key = pair .key; iv = pair .iv })
+  accepted (record { engine = engineOf h area; key = pair .key; iv = pair .iv })
 
-unfoldable pub recoverCall : (head : Head) (area key iv : List ℕ) → Left Recovered
-recoverCall h area key iv = left (record { head = h; key = key; iv = iv }) (recover h area key iv)
+unfoldable pub recoverCall : (head : Head) (area key iv : List ℕ) → Outcome Recovered
+recoverCall h area key iv = outcome (record { engine = engineOf h area; key = key; iv = iv }) (recover h area key iv)
 
 -- eight words of a key or an IV, unused words 0
 abbrev pub eightWords : List ℕ → List ℕ
 eightWords bytes = words bytes ++ replicate (8 - length (words bytes)) 0
 
-pub record Opened : Type 0 where
+pub record Loaded : Type 0 where
   pub engine : Engine
   pub key : List ℕ
   pub iv : List ℕ
 
 -- **Load** fills area and head and returns the key and IV as eight words each, unused words 0.
-unfoldable pub load : (string area : List ℕ) → Result Opened
+unfoldable pub load : (string area : List ℕ) → Result Loaded
 load string area = do
   l ← loadCheck string (length area)
   accepted
       (record {
-        engine = record { head = headAt (codeOf (l .cipher)) (l .position); area = l .area };
+        engine = engineOf (headAt (codeOf (l .cipher)) (l .position)) (l .area);
         key = eightWords (l .key);
         iv = eightWords (l .iv);
       })
 
 -- the sixteen words of a refused load are 0
-unfoldable pub loadCall : (head : Head) (string area : List ℕ) → Left Opened
-loadCall h string area =
-    left (record { engine = record { head = h; area = area }; key = replicate 8 0; iv = replicate 8 0 }) (load string area)
+unfoldable pub loadCall : (head : Head) (string area : List ℕ) → Outcome Loaded
+loadCall h string area = outcome (record { engine = engineOf h area; key = replicate 8 0; iv = replicate 8 0 }) (load string area)
 
 pub record Counted : Type 0 where
   pub head : Head
@@ -123,5 +126,5 @@ spent h = do
   refuse 5 unless leb (h .position) limit
   accepted (record { head = h; count = h .position })
 
-unfoldable pub spentCall : (head : Head) → Left Counted
-spentCall h = left (record { head = h; count = 0 }) (spent h)
+unfoldable pub spentCall : (head : Head) → Outcome Counted
+spentCall h = outcome (record { head = h; count = 0 }) (spent h)

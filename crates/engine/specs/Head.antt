@@ -2,10 +2,6 @@
 use Prim.Native.Nat.{ℕ}
 use Rattle.engine.specs.declared.Head.{Head}
 
--- the stream limit in bytes, for both ciphers
-abbrev pub limit : ℕ
-limit = 67108864
-
 abbrev pub headAt : ℕ → ℕ → Head
 headAt code position = record { code = code; position = position }
 

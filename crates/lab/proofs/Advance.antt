@@ -12,9 +12,9 @@ use Rattle.checkpoint.specs.Checkpoint.{mostGroups}
 use Rattle.setup.specs.SetUp.{Undone, none, found}
 use Rattle.engine.specs.declared.Head.{Head}
 use Rattle.engine.specs.declared.Done.{Done}
-use Rattle.engine.specs.Result.{Result, refused, accepted, Left, left}
-use Rattle.engine.specs.Head.{limit}
-use Rattle.engine.specs.Conditions.{ready, cipherCheck, undoAt, foundOr12, placed, loadCheck}
+use Rattle.conditions.specs.Result.{Result, refused, accepted, Outcome, left}
+use Rattle.conditions.specs.Limit.{limit}
+use Rattle.conditions.specs.Conditions.{ready, cipherCheck, undoAt, foundOr12, placed, loadCheck}
 use Rattle.engine.specs.Calls.{Ciphered, cipher, cipherCall}
 use Rattle.engine.specs.Answers as Answers
 use Rattle.theorems.proofs.Results.{no-refusal, accepted-one, after-line, after-without, after-unless}
@@ -83,8 +83,8 @@ module _ (h : Head) (area bytes : List ℕ) where
   pub advances : (r : Done) (s bs : List ℕ) → Answers.ciphered r s bs ≡ cipherCall h area bytes → Advance (h .position) (length bytes) r
   unfolding cipherCall
   advances r s bs e =
-      let refusal = ap (λ (l : Left Ciphered). l .refusal) e in
-      let position = ap (λ (l : Left Ciphered). l .value .engine .head .position) e in
+      let refusal = ap (λ (l : Outcome Ciphered). l .refusal) e in
+      let position = ap (λ (l : Outcome Ciphered). l .value .engine .head .position) e in
       record {
         advanced = λ z. position ∙ ends (cipher h area bytes) refl _ (sym refusal ∙ z) .0;
         within = λ z. ends (cipher h area bytes) refl (record { engine = record { head = h; area = area }; bytes = bytes }) (sym refusal ∙ z) .1;

@@ -28,11 +28,12 @@ use Rattle.setup.specs.SetUp.{found}
 use Rattle.setup.proofs.Inverse.{set-up-area}
 use Rattle.checkpoint.specs.Checkpoint.{layout, room}
 use Rattle.engine.specs.declared.Head.{Head}
-use Rattle.engine.specs.Result.{Result, refused, accepted, Left}
-use Rattle.engine.specs.Head.{limit, freshHead, headAt}
-use Rattle.engine.specs.Conditions.{undoAt, foundOr12, Loaded, setUpCheck, cipherCheck, loadCheck}
+use Rattle.conditions.specs.Result.{Result, refused, accepted, Outcome}
+use Rattle.conditions.specs.Limit.{limit}
+use Rattle.engine.specs.Head.{freshHead, headAt}
+use Rattle.conditions.specs.Conditions.{undoAt, foundOr12, Contents, setUpCheck, cipherCheck, loadCheck}
 use Rattle.engine.specs.Calls.{Engine, setUp, setUpCall, cipher, cipherCall, move, moveCall, write, writeCall, recover, recoverCall, load, loadCall}
-use Rattle.engine.proofs.Conditions.{ready-accepted}
+use Rattle.conditions.proofs.Conditions.{ready-accepted}
 use Rattle.theorems.specs.Account.{Four, IsFour, Checkpoint, tablesOf, checkpointOf}
 use Rattle.theorems.proofs.Results.{no-refusal, accepted-one, after-line}
 use Rattle.theorems.proofs.Conditions.{accepted-only, load-passed, move-accepted, recover-finds}
@@ -46,10 +47,10 @@ use Rattle.lab.proofs.Tasks.{ends-at}
 -- ── load ──
 
 -- what an accepted load leaves
-engineOf : Loaded → Engine
+engineOf : Contents → Engine
 engineOf l = record { head = headAt (codeOf (l .cipher)) (l .position); area = l .area }
 
-loaded-accepted : (string area : List ℕ) (l : Loaded) → loadCheck string (length area) ≡ accepted l
+loaded-accepted : (string area : List ℕ) (l : Contents) → loadCheck string (length area) ≡ accepted l
     → loaded string area ≡ record { refusal = 0; value = engineOf l }
 unfolding loaded loadCall load engineOf
 loaded-accepted string area l e = rw e
@@ -60,13 +61,13 @@ unfolding loaded loadCall load
 loaded-refused string area n e = rw e
 
 -- an accepted load has filled an area of the cipher's size, at a position within the limit
-load-leaves : (string : List ℕ) (size : ℕ) (l : Loaded) → loadCheck string size ≡ accepted l
+load-leaves : (string : List ℕ) (size : ℕ) (l : Contents) → loadCheck string size ≡ accepted l
     → (length (l .area) ≡ areaLength (l .cipher)) × (l .position ≤ limit)
 load-leaves string size l e =
     let (c, p, rest, passed, last) = load-passed string size accepted-only e in
     after-line (foundOr12 (undoAt c (words rest) p)) _ last (λ _. no-refusal) λ pair e₁ r₁.
     subst
-    (λ (x : Loaded). (length (x .area) ≡ areaLength (x .cipher)) × (x .position ≤ limit))
+    (λ (x : Contents). (length (x .area) ≡ areaLength (x .cipher)) × (x .position ≤ limit))
     (accepted-one refl r₁)
     (length-words (areaLength c) rest (passed .rest-long), passed .within-limit)
 
@@ -78,7 +79,7 @@ moved-back : (c : Cipher) (p : ℕ) (s : List ℕ) → length s ≡ areaLength c
 unfolding moveCall move
 moved-back c p s z l = rw (move-accepted c p (length s) (negℤ (pos p)) 0 z l (+ℤ-invr (pos p)) (omega arith))
 
-opened-accepted : (string area : List ℕ) (l : Loaded) → loadCheck string (length area) ≡ accepted l
+opened-accepted : (string area : List ℕ) (l : Contents) → loadCheck string (length area) ≡ accepted l
     → opened string area
     ≡ record { refusal = 0; value = record { head = headAt (codeOf (l .cipher)) 0; area = moved (l .cipher) (l .area) (l .position) 0 } }
 unfolding opened engineOf
@@ -94,11 +95,11 @@ opened-refused : (string area : List ℕ) (n : ℕ) → loadCheck string (length
 unfolding opened
 opened-refused string area n e = rw (loaded-refused string area n e, ne-eqb n 0 (not-0 string (length area) n e))
 
-by-load : (string area : List ℕ) (x : Result Loaded) → loadCheck string (length area) ≡ x
+by-load : (string area : List ℕ) (x : Result Contents) → loadCheck string (length area) ≡ x
     → opened string area .refusal ≡ loadCall freshHead string area .refusal
 unfolding loadCall load
-by-load string area (refused n) e = ap (λ (l : Left Engine). l .refusal) (opened-refused string area n e) ∙ rw e
-by-load string area (accepted l) e = ap (λ (l : Left Engine). l .refusal) (opened-accepted string area l e) ∙ rw e
+by-load string area (refused n) e = ap (λ (l : Outcome Engine). l .refusal) (opened-refused string area n e) ∙ rw e
+by-load string area (accepted l) e = ap (λ (l : Outcome Engine). l .refusal) (opened-accepted string area l e) ∙ rw e
 
 -- ── the checkpoint of a four ──
 
@@ -109,7 +110,7 @@ of-code Hc256 rest = refl
 
 cipher-is : (string : List ℕ) (f : Four) → Checkpoint string f → cipherOf string ≡ f .cipher
 unfolding checkpointOf layout
-cipher-is string f h = ap cipherOf (h .isString) ∙ of-code (f .cipher) _
+cipher-is string f h = ap cipherOf (h .string-is) ∙ of-code (f .cipher) _
 
 -- the tables at position 0 are those of set-up
 at-0 : (c : Cipher) (k v : List ℕ) → tablesOf (record { cipher = c; key = k; iv = v; position = 0 }) ≡ SetUp.setUp c k v
@@ -122,7 +123,7 @@ opens : (string area : List ℕ) (f : Four) → Checkpoint string f → length a
 opens string area f h z =
     opened-accepted string area (loadedOf f) (load-checkpoint string (length area) f h z)
     ∙ ap (λ (s : List ℕ). record { refusal = 0; value = record { head = headAt (codeOf (f .cipher)) 0; area = s } })
-    (four-moved f 0 (h .isFour) ∙ at-0 (f .cipher) (f .key) (f .iv))
+    (four-moved f 0 (h .is-four) ∙ at-0 (f .cipher) (f .key) (f .iv))
 
 set-up-is : (c : Cipher) (k v area : List ℕ) → Pair c k v → length area ≡ areaLength c
     → setUpCall freshHead (codeOf c) k v area ≡ record { refusal = 0; value = record { head = headAt (codeOf c) 0; area = SetUp.setUp c k v } }
@@ -133,7 +134,7 @@ set-up-is c k v area pair z =
 as-set-up : (string area : List ℕ) (f : Four) → Checkpoint string f → length area ≡ areaLength (f .cipher)
     → opened string area ≡ setUpCall freshHead (codeOf (f .cipher)) (f .key) (f .iv) area
 as-set-up string area f h z =
-    opens string area f h z ∙ sym (set-up-is (f .cipher) (f .key) (f .iv) area (h .isFour .pair) z)
+    opens string area f h z ∙ sym (set-up-is (f .cipher) (f .key) (f .iv) area (h .is-four .pair) z)
 
 -- ── deciphering ──
 
@@ -204,9 +205,9 @@ in-parts : (string area log : List ℕ) (parts : List (List ℕ)) (f : Four) →
 in-parts string area log parts f h z l e =
     let c = f .cipher in
     let s = SetUp.setUp c (f .key) (f .iv) in
-    let ready = set-up-area c (f .key) (f .iv) (h .isFour .pair) in
+    let ready = set-up-area c (f .key) (f .iv) (h .is-four .pair) in
     let enciphered : flatten parts ≡ ciphered c s 0 log =
-    e ∙ rw (set-up-is c (f .key) (f .iv) area (h .isFour .pair) z, cipher-call-is c 0 s log (ready .sized) (omega arith)) in
+    e ∙ rw (set-up-is c (f .key) (f .iv) area (h .is-four .pair) z, cipher-call-is c 0 s log (ready .sized) (omega arith)) in
     let long : length (flatten parts) ≡ length log = ap length enciphered ∙ length-ciphered c s 0 log in
     rw (opens string area f h z, streamed-is c 0 s parts ready (omega arith), enciphered) (ciphered-twice c s 0 log)
 
@@ -230,13 +231,13 @@ recovers : (string area key iv : List ℕ) (f : Four) → Checkpoint string f �
 unfolding recoveredFrom recoverCall recover engineOf
 recovers string area key iv f h z kn vn =
     let c = f .cipher in
-    let sized = four-sized f (tablesOf f) (h .isFour) refl in
+    let sized = four-sized f (tablesOf f) (h .is-four) refl in
     let finds =
     recover-finds (codeOf c) (f .position) (tablesOf f) (length key) (length iv) c
-    (record { code-is = refl; sized = sized; within-limit = h .isFour .within })
+    (record { code-is = refl; sized = sized; within-limit = h .is-four .within })
     kn
     vn in
-    rw (loaded-accepted string area (loadedOf f) (load-checkpoint string (length area) f h z), finds, undo-four f (h .isFour))
+    rw (loaded-accepted string area (loadedOf f) (load-checkpoint string (length area) f h z), finds, undo-four f (h .is-four))
 
 -- ── writing ──
 
@@ -285,8 +286,8 @@ rewrites : (string area lent : List ℕ) (f : Four) (position : ℕ) → Checkpo
     → rewrittenAt string area position lent ≡ checkpointPut (atPosition f position) lent
 unfolding rewrittenAt movedTo engineOf
 rewrites string area lent f position h z w l =
-    rw (loaded-accepted string area (loadedOf f) (load-checkpoint string (length area) f h z), moved-four f position (h .isFour) w)
-    (then-write (atPosition f position) lent (record { pair = h .isFour .pair; within = w }) l)
+    rw (loaded-accepted string area (loadedOf f) (load-checkpoint string (length area) f h z), moved-four f position (h .is-four) w)
+    (then-write (atPosition f position) lent (record { pair = h .is-four .pair; within = w }) l)
 
 pub from-checkpoint : FromCheckpoint
 from-checkpoint = record {

@@ -17,9 +17,10 @@ use Rattle.engine.specs.declared.Head.{Head}
 use Rattle.engine.specs.declared.Done.{Done}
 use Rattle.engine.specs.declared.WriteAnswer.{WriteAnswer}
 use Rattle.engine.specs.declared.LoadAnswer.{LoadAnswer}
-use Rattle.engine.specs.Result.{Result, refused, accepted, Left, left}
-use Rattle.engine.specs.Head.{limit, freshHead}
-use Rattle.engine.specs.Conditions.{ready, endOf}
+use Rattle.conditions.specs.Result.{Result, refused, accepted, Outcome, left}
+use Rattle.conditions.specs.Limit.{limit}
+use Rattle.engine.specs.Head.{freshHead}
+use Rattle.conditions.specs.Conditions.{ready, endOf}
 use Rattle.engine.specs.Calls.{Engine, setUpCall, moveCall, write, writeCall, recoverCall, loadCall}
 use Rattle.engine.specs.Calls as Calls
 use Rattle.engine.specs.Answers as Answers
@@ -105,7 +106,7 @@ module _ (h : Head) (code : ℕ) (key iv area : List ℕ) (position : ℕ) (s : 
   unfolding startedAt
   started-refused z = rw (← f, ← e, ne-eqb (r .refusal) 0 z)
 
-  pub started-made : r .refusal ≡ 0 → (m : Left Engine) → m ≡ moveTo position (record { head = r .head; area = s })
+  pub started-made : r .refusal ≡ 0 → (m : Outcome Engine) → m ≡ moveTo position (record { head = r .head; area = s })
       → m ≡ startedAt code key iv area position
   unfolding startedAt
   started-made z m q = rw (← f, ← e, eq-eqb (r .refusal) 0 z) q
@@ -116,7 +117,7 @@ module _ (h : Head) (string area : List ℕ) (position : ℕ) (s : List ℕ) (l 
   unfolding movedTo
   moved-refused z = rw (← loaded-is h string area s l f e, ne-eqb (l .refusal) 0 z)
 
-  pub moved-made : l .refusal ≡ 0 → (m : Left Engine) → m ≡ moveTo position (record { head = l .head; area = s })
+  pub moved-made : l .refusal ≡ 0 → (m : Outcome Engine) → m ≡ moveTo position (record { head = l .head; area = s })
       → m ≡ movedTo string area position
   unfolding movedTo
   moved-made z m q = rw (← loaded-is h string area s l f e, eq-eqb (l .refusal) 0 z) q
@@ -136,7 +137,7 @@ write-counts h area lent (accepted w) e =
 counts : (n : ℕ) (bytes : List ℕ) → n ≤ length bytes → Tasks.Counts n bytes
 counts n bytes l = (l, sym (length-take-le n bytes l))
 
-module _ (first : Left Engine) (lent : List ℕ) (r : Done) (s : List ℕ) (e : Answers.done r s ≡ first) where
+module _ (first : Outcome Engine) (lent : List ℕ) (r : Done) (s : List ℕ) (e : Answers.done r s ≡ first) where
   pub written-refused : (r .refusal ≡ 0 → ⊥)
       → (record { refusal = r .refusal; value = record { engine = record { head = r .head; area = s }; length = 0; lent = lent } } ≡ thenWrite first lent)
       × Tasks.Counts 0 lent
@@ -147,7 +148,7 @@ module _ (first : Left Engine) (lent : List ℕ) (r : Done) (s : List ℕ) (e : 
   unfolding writeCall
   written-made h w lent′ q = (
     rw (← e, eq-eqb (r .refusal) 0 h, ← q),
-    counts (w .length) lent′ (rw (ap (λ (y : Left Calls.Written). y .value .length) q, ap (λ (y : Left Calls.Written). y .value .lent) q) (write-counts (r .head) s lent (write (r .head) s lent) refl)),
+    counts (w .length) lent′ (rw (ap (λ (y : Outcome Calls.Written). y .value .length) q, ap (λ (y : Outcome Calls.Written). y .value .lent) q) (write-counts (r .head) s lent (write (r .head) s lent) refl)),
   )
 
 module _ (h : Head) (string area key iv s : List ℕ) (l : LoadAnswer) (f : h ≡ freshHead) (e : Answers.opened l s ≡ loadCall h string area) where

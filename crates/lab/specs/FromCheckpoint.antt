@@ -6,14 +6,15 @@ use lib.ListN.{length, drop}
 use Rattle.cipher.specs.Numbers.{codeOf, areaLength, keyLength, ivLength}
 use Rattle.setup.specs.SetUp as SetUp
 use Rattle.checkpoint.specs.Checkpoint.{room}
-use Rattle.engine.specs.Result.{Left}
-use Rattle.engine.specs.Head.{limit, freshHead, headAt}
+use Rattle.conditions.specs.Result.{Outcome}
+use Rattle.conditions.specs.Limit.{limit}
+use Rattle.engine.specs.Head.{freshHead, headAt}
 use Rattle.engine.specs.Calls.{Engine, Ciphered, setUpCall, cipherCall, loadCall}
 use Rattle.theorems.specs.Account.{Four, IsFour, Checkpoint, tablesOf, checkpointOf}
 use Rattle.lab.specs.Tasks.{Written, cipherOf, opened, writtenAt, rewrittenAt, recoveredFrom}
 
 -- what a cipher call on what is left of another call leaves
-abbrev pub cipherAfter : Left Engine → List ℕ → Left Ciphered
+abbrev pub cipherAfter : Outcome Engine → List ℕ → Outcome Ciphered
 cipherAfter l bytes = cipherCall (l .value .head) (l .value .area) bytes
 
 -- what is written of bytes that come in parts: each part is ciphered on what the one before left
@@ -27,7 +28,7 @@ abbrev pub atPosition : Four → ℕ → Four
 atPosition f position = record { cipher = f .cipher; key = f .key; iv = f .iv; position = position }
 
 -- the engine of a four, and lent bytes that begin with its checkpoint; later bytes stay
-abbrev pub checkpointPut : Four → List ℕ → Left Written
+abbrev pub checkpointPut : Four → List ℕ → Outcome Written
 checkpointPut f lent =
     record {
       refusal = 0;

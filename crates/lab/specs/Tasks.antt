@@ -15,8 +15,9 @@ use Rattle.cipher.specs.Numbers.{codeOf}
 use Rattle.checkpoint.specs.Checkpoint.{mostGroups}
 use Rattle.engine.specs.declared.Done.{Done}
 use Rattle.engine.specs.declared.WriteAnswer.{WriteAnswer}
-use Rattle.engine.specs.Result.{Left}
-use Rattle.engine.specs.Head.{limit, freshHead}
+use Rattle.conditions.specs.Result.{Outcome}
+use Rattle.conditions.specs.Limit.{limit}
+use Rattle.engine.specs.Head.{freshHead}
 use Rattle.engine.specs.Calls.{Engine, setUpCall, moveCall, writeCall, recoverCall, loadCall}
 
 -- the cipher whose area a checkpoint is loaded into: HC-128 where its first byte is that cipher's code, else HC-256
@@ -51,30 +52,30 @@ pub record Advance (position n : ℕ) (r : Done) : Type 0 where
   pub within : r .refusal ≡ 0 → position + n ≤ limit
 
 -- what two calls leave, the second on what the first left; `kept` is what is left where the first is refused
-abbrev pub andThen : {A : Type 0} → Left Engine → (Engine → Left A) → (Engine → A) → Left A
+abbrev pub andThen : {A : Type 0} → Outcome Engine → (Engine → Outcome A) → (Engine → A) → Outcome A
 andThen first second kept =
     cond (eqb (first .refusal) 0) (second (first .value)) (record { refusal = first .refusal; value = kept (first .value) })
 
 -- the engine that a load from a fresh head leaves
-unfoldable pub loaded : (string area : List ℕ) → Left Engine
+unfoldable pub loaded : (string area : List ℕ) → Outcome Engine
 loaded string area =
     record { refusal = loadCall freshHead string area .refusal; value = loadCall freshHead string area .value .engine }
 
 -- the move from where the engine is to a position
-unfoldable pub moveTo : (position : ℕ) → Engine → Left Engine
+unfoldable pub moveTo : (position : ℕ) → Engine → Outcome Engine
 moveTo position e = moveCall (e .head) (e .area) (pos position -ℤ pos (e .head .position))
 
 -- load a checkpoint and move to a position
-unfoldable pub movedTo : (string area : List ℕ) (position : ℕ) → Left Engine
+unfoldable pub movedTo : (string area : List ℕ) (position : ℕ) → Outcome Engine
 movedTo string area position = andThen (loaded string area) (moveTo position) (λ e. e)
 
 -- load a checkpoint and move back by its position
-unfoldable pub opened : (string area : List ℕ) → Left Engine
+unfoldable pub opened : (string area : List ℕ) → Outcome Engine
 opened string area =
     andThen (loaded string area) (λ e. moveCall (e .head) (e .area) (negℤ (pos (e .head .position)))) (λ e. e)
 
 -- set up and move to a position
-unfoldable pub startedAt : (code : ℕ) (key iv area : List ℕ) (position : ℕ) → Left Engine
+unfoldable pub startedAt : (code : ℕ) (key iv area : List ℕ) (position : ℕ) → Outcome Engine
 startedAt code key iv area position = andThen (setUpCall freshHead code key iv area) (moveTo position) (λ e. e)
 
 -- an engine, the length of the checkpoint and the lent bytes that hold it
@@ -84,7 +85,7 @@ pub record Written : Type 0 where
   pub lent : List ℕ
 
 -- write on what the calls before left
-abbrev pub thenWrite : Left Engine → List ℕ → Left Written
+abbrev pub thenWrite : Outcome Engine → List ℕ → Outcome Written
 thenWrite first lent =
     andThen first
     (λ e.
@@ -96,11 +97,11 @@ thenWrite first lent =
     (λ e. record { engine = e; length = 0; lent = lent })
 
 -- set up, move to a position and write
-unfoldable pub writtenAt : (code : ℕ) (key iv area : List ℕ) (position : ℕ) (lent : List ℕ) → Left Written
+unfoldable pub writtenAt : (code : ℕ) (key iv area : List ℕ) (position : ℕ) (lent : List ℕ) → Outcome Written
 writtenAt code key iv area position lent = thenWrite (startedAt code key iv area position) lent
 
 -- load a checkpoint, move to a position and write
-unfoldable pub rewrittenAt : (string area : List ℕ) (position : ℕ) (lent : List ℕ) → Left Written
+unfoldable pub rewrittenAt : (string area : List ℕ) (position : ℕ) (lent : List ℕ) → Outcome Written
 rewrittenAt string area position lent = thenWrite (movedTo string area position) lent
 
 -- n counts bytes at the start of a list; the second part follows from the first, and is said for the prover, which asks for it
@@ -114,7 +115,7 @@ pub record Recovered : Type 0 where
   pub iv : List ℕ
 
 -- load a checkpoint and recover its key and IV
-unfoldable pub recoveredFrom : (string area key iv : List ℕ) → Left Recovered
+unfoldable pub recoveredFrom : (string area key iv : List ℕ) → Outcome Recovered
 recoveredFrom string area key iv =
     andThen (loaded string area)
     (λ e.
@@ -126,10 +127,10 @@ recoveredFrom string area key iv =
     (λ e. record { engine = e; key = key; iv = iv })
 
 -- what the structs of the code mean, with the contents of the lent slices at exit
-abbrev pub written : WriteAnswer → List ℕ → List ℕ → Left Written
+abbrev pub written : WriteAnswer → List ℕ → List ℕ → Outcome Written
 written r area lent =
     record { refusal = r .refusal; value = record { engine = record { head = r .head; area = area }; length = r .length; lent = lent } }
 
-abbrev pub recovered : Done → List ℕ → List ℕ → List ℕ → Left Recovered
+abbrev pub recovered : Done → List ℕ → List ℕ → List ℕ → Outcome Recovered
 recovered r area key iv =
     record { refusal = r .refusal; value = record { engine = record { head = r .head; area = area }; key = key; iv = iv } }

@@ -14,13 +14,14 @@ use Rattle.schedule.specs.Key.{Pair}
 use Rattle.keystream.specs.Steps.{moved}
 use Rattle.setup.specs.SetUp as SetUp
 use Rattle.engine.specs.declared.Head.{Head}
-use Rattle.engine.specs.Result.{Result, refused, accepted, left, _>>=_, refuse_without_}
-use Rattle.engine.specs.Head.{limit, headAt}
+use Rattle.conditions.specs.Result.{Result, refused, accepted, outcome, _>>=_, refuse_without_}
+use Rattle.conditions.specs.Limit.{limit}
+use Rattle.engine.specs.Head.{headAt}
 use Rattle.checkpoint.specs.Checkpoint.{room}
-use Rattle.engine.specs.Conditions.{setUpCheck, ready, cipherCheck, moveCheck, recoverCheck, Loaded, loadCheck}
-use Rattle.engine.specs.Calls.{Engine, Ciphered, Written, Recovered, Opened, Counted, setUp, setUpCall, cipher, cipherCall, move, moveCall, write, writeCall, recover, recoverCall, load, loadCall, spent, spentCall}
+use Rattle.conditions.specs.Conditions.{setUpCheck, ready, cipherCheck, moveCheck, recoverCheck, Contents, loadCheck}
+use Rattle.engine.specs.Calls.{Engine, engineOf, Ciphered, Written, Recovered, Loaded, Counted, setUp, setUpCall, cipher, cipherCall, move, moveCall, write, writeCall, recover, recoverCall, load, loadCall, spent, spentCall}
 use Rattle.theorems.specs.Account.{Call, call-set-up, call-cipher, call-move, call-write, call-recover, call-load, call-spent, Given, AllGiven, called, run, Four, IsFour, Account, empty, holds, accountCode, accountPosition, at, unless-refused, feed, account, engineAfter, accountAfter, tablesOf}
-use Rattle.theorems.proofs.Results.{no-refusal, left-same, accepted-one, after-first, after-line, after-unless}
+use Rattle.theorems.proofs.Results.{no-refusal, outcome-same, accepted-one, after-first, after-line, after-unless}
 use Rattle.theorems.proofs.Tables.{four-sized, four-moved}
 use Rattle.theorems.proofs.Conditions.{same-code, no-code-0, ReadyShows, set-up-shows, cipher-shows, move-shows}
 use Rattle.theorems.proofs.Checkpoints.{fourOf, load-shows}
@@ -42,31 +43,31 @@ pub record Agrees (size : ℕ) (a : Account) (e : Engine) : Type 0 where
 -- what holds before a call, and after it where it is accepted, holds after it
 module _ {A B : Type 0} (P : Account → Engine → Type 0) (a : Account) (f : A → Account) (old : B) (new : A → B) (engine : B → Engine) where
   by-answer : (r : Result A) → P a (engine old) → ((x : A) → r ≡ accepted x → P (f x) (engine (new x)))
-      → P (unless-refused a r f) (engine (left old (r >>= λ x. accepted (new x)) .value))
+      → P (unless-refused a r f) (engine (outcome old (r >>= λ x. accepted (new x)) .value))
   by-answer (refused n) before after = before
   by-answer (accepted x) before after = after x refl
 
--- ── the heads that write, recover and spent return ──
+-- ── write, recover and spent leave the engine ──
 
-write-head : (h : Head) (area lent : List ℕ) → writeCall h area lent .value .head ≡ h
+write-engine : (h : Head) (area lent : List ℕ) → writeCall h area lent .value .engine ≡ engineOf h area
 unfolding writeCall write
-write-head h area lent =
-    left-same (λ (w : Written). w .head) _ (write h area lent) λ w e.
+write-engine h area lent =
+    outcome-same (λ (w : Written). w .engine) _ (write h area lent) λ w e.
     after-line (ready (h .code) (h .position) (length area)) _ e (λ _. no-refusal) λ c e₁ r₁.
     after-unless 8 (leb (room c) (length lent)) _ r₁ no-refusal λ e₂ r₂.
-    ap (λ (x : Written). x .head) (sym (accepted-one refl r₂))
+    ap (λ (x : Written). x .engine) (sym (accepted-one refl r₂))
 
-recover-head : (h : Head) (area key iv : List ℕ) → recoverCall h area key iv .value .head ≡ h
+recover-engine : (h : Head) (area key iv : List ℕ) → recoverCall h area key iv .value .engine ≡ engineOf h area
 unfolding recoverCall recover
-recover-head h area key iv =
-    left-same (λ (r : Recovered). r .head) _ (recover h area key iv) λ r e.
+recover-engine h area key iv =
+    outcome-same (λ (r : Recovered). r .engine) _ (recover h area key iv) λ r e.
     after-line (recoverCheck (h .code) (h .position) area (length key) (length iv)) _ e (λ _. no-refusal) λ pair e₁ r₁.
-    ap (λ (x : Recovered). x .head) (sym (accepted-one refl r₁))
+    ap (λ (x : Recovered). x .engine) (sym (accepted-one refl r₁))
 
 spent-head : (h : Head) → spentCall h .value .head ≡ h
 unfolding spentCall spent
 spent-head h =
-    left-same (λ (n : Counted). n .head) _ (spent h) λ n e.
+    outcome-same (λ (n : Counted). n .head) _ (spent h) λ n e.
     after-unless 5 (leb (h .position) limit) _ (after-first (refuse 1 without byCode (h .code)) _ e) no-refusal λ e₁ r₁.
     ap (λ (x : Counted). x .head) (sym (accepted-one refl r₁))
 
@@ -115,11 +116,11 @@ moved-agrees (holds f) s c q t r l =
     (rw (d, t .1) (four-moved f q h))
     (r .sized ∙ ap areaLength d)
 
-load-agrees : (string s : List ℕ) (l : Loaded) → AllBytes string → loadCheck string (length s) ≡ accepted l
+load-agrees : (string s : List ℕ) (l : Contents) → AllBytes string → loadCheck string (length s) ≡ accepted l
     → Agrees (length s) (holds (fourOf l)) (record { head = headAt (codeOf (l .cipher)) (l .position); area = l .area })
 load-agrees string s l all e =
     let r = load-shows string (length s) l all e in
-    tables-agree (fourOf l) (l .area) (length s) (r .checkpoint .isFour) (r .area-is) (r .sized)
+    tables-agree (fourOf l) (l .area) (length s) (r .checkpoint .is-four) (r .area-is) (r .sized)
 
 agree-at : (call : Call) (a : Account) (s : List ℕ) → Given call → TablesAre a s
     → Agrees (length s) (feed (length s) a call) (called (engineAt a s) call)
@@ -140,10 +141,10 @@ agree-at (call-move distance) a s g t =
     let r = move-shows code position (length s) distance m e in
     moved-agrees a s (m .cipher) (m .end) t (r .is-ready) (r .end-within)
 agree-at (call-load string) a s g t =
-    by-answer (Agrees (length s)) a _ _ _ (λ (o : Opened). o .engine) (loadCheck string (length s)) (same a s t) λ l e.
+    by-answer (Agrees (length s)) a _ _ _ (λ (o : Loaded). o .engine) (loadCheck string (length s)) (same a s t) λ l e.
     load-agrees string s l g e
-agree-at (call-write lent) a s g t = rw (write-head (headOf a) s lent) (same a s t)
-agree-at (call-recover key iv) a s g t = rw (recover-head (headOf a) s key iv) (same a s t)
+agree-at (call-write lent) a s g t = rw (write-engine (headOf a) s lent) (same a s t)
+agree-at (call-recover key iv) a s g t = rw (recover-engine (headOf a) s key iv) (same a s t)
 agree-at call-spent a s g t = rw (spent-head (headOf a)) (same a s t)
 
 agree-call : (call : Call) (size : ℕ) (a : Account) (e : Engine) → Given call → Agrees size a e

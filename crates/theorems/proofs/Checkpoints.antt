@@ -13,19 +13,19 @@ use Rattle.varint.proofs.Reading.{read-written, written-read}
 use Rattle.cipher.specs.declared.Cipher.{Cipher}
 use Rattle.cipher.specs.Numbers.{areaLength}
 use Rattle.tables.specs.Area.{Area}
-use Rattle.engine.specs.Result.{accepted}
-use Rattle.engine.specs.Head.{limit}
+use Rattle.conditions.specs.Result.{accepted}
+use Rattle.conditions.specs.Limit.{limit}
 use Rattle.checkpoint.specs.Checkpoint.{layout, mostGroups}
-use Rattle.engine.specs.Conditions.{undoAt, foundOr12, Loaded, loadCheck}
+use Rattle.conditions.specs.Conditions.{undoAt, foundOr12, Contents, loadCheck}
 use Rattle.theorems.specs.Account.{Four, tablesOf, checkpointOf, Checkpoint}
 use Rattle.theorems.proofs.Results.{no-refusal, accepted-one, after-line}
 use Rattle.theorems.proofs.Tables.{undo-finds, found-have, four-area}
 use Rattle.theorems.proofs.Conditions.{same-code, accepted-only, found-shows, LoadPassed, load-finds, load-passed}
 
-abbrev pub fourOf : Loaded → Four
+abbrev pub fourOf : Contents → Four
 fourOf l = record { cipher = l .cipher; key = l .key; iv = l .iv; position = l .position }
 
-abbrev pub loadedOf : Four → Loaded
+abbrev pub loadedOf : Four → Contents
 loadedOf f = record { cipher = f .cipher; key = f .key; iv = f .iv; position = f .position; area = tablesOf f }
 
 -- ── what is laid out ──
@@ -75,19 +75,19 @@ pub load-checkpoint : (string : List ℕ) (size : ℕ) (f : Four) → Checkpoint
     → loadCheck string size ≡ accepted (loadedOf f)
 unfolding checkpointOf tablesOf
 load-checkpoint string size f h z =
-    let area = four-area f (h .isFour) in
+    let area = four-area f (h .is-four) in
     load-finds string size (f .cipher) (f .position) _
     (laid-out-passed string size (f .cipher) (f .position) (tablesOf f)
-    (record { is-area = area; within = h .isFour .within; string-is = h .isString; sized = z }))
-    ∙ rw (words-bytes (tablesOf f) (area .words), undo-finds (f .cipher) (f .key) (f .iv) (f .position) (h .isFour .pair))
+    (record { is-area = area; within = h .is-four .within; string-is = h .string-is; sized = z }))
+    ∙ rw (words-bytes (tablesOf f) (area .words), undo-finds (f .cipher) (f .key) (f .iv) (f .position) (h .is-four .pair))
 
 -- what an accepted load shows
-pub record LoadShows (string : List ℕ) (size : ℕ) (l : Loaded) : Type 0 where
+pub record LoadShows (string : List ℕ) (size : ℕ) (l : Contents) : Type 0 where
   pub checkpoint : Checkpoint string (fourOf l)
   pub sized : size ≡ areaLength (l .cipher)
   pub area-is : l .area ≡ tablesOf (fourOf l)
 
-pub load-shows : (string : List ℕ) (size : ℕ) (l : Loaded) → AllBytes string → loadCheck string size ≡ accepted l
+pub load-shows : (string : List ℕ) (size : ℕ) (l : Contents) → AllBytes string → loadCheck string size ≡ accepted l
     → LoadShows string size l
 unfolding checkpointOf tablesOf
 load-shows string size l all e =
@@ -98,21 +98,21 @@ load-shows string size l all e =
     subst (LoadShows string size) (accepted-one refl r₁)
     (record {
       checkpoint = record {
-        isFour = record { pair = have .0; within = h .within };
-        isString = h .string-is ∙ ap (layout c p) (sym (have .1));
+        is-four = record { pair = have .0; within = h .within };
+        string-is = h .string-is ∙ ap (layout c p) (sym (have .1));
       };
       sized = h .sized;
       area-is = sym (have .1);
     })
 
 -- a checkpoint's loading, at whatever size it is accepted
-pub load-is : (string : List ℕ) (size : ℕ) (l : Loaded) (f : Four) → loadCheck string size ≡ accepted l → Checkpoint string f
+pub load-is : (string : List ℕ) (size : ℕ) (l : Contents) (f : Four) → loadCheck string size ≡ accepted l → Checkpoint string f
     → l ≡ loadedOf f
 unfolding checkpointOf layout
 load-is string size l f e h =
     let (c, p, rest, passed, last) = load-passed string size accepted-only e in
     let s = passed .string-is in
-    let t = h .isString in
+    let t = h .string-is in
     let same : c ≡ f .cipher = same-code c (f .cipher) (cc) in
     accepted-one e (load-checkpoint string size f h (passed .sized ∙ ap areaLength same))
 

@@ -13,11 +13,11 @@ use Rattle.cipher.specs.declared.Cipher.the-variants.{Hc128, Hc256}
 use Rattle.cipher.specs.Numbers.{byCode, codeOf, areaLength, keyLength, ivLength}
 use Rattle.cipher.proofs.Codes.{code-of, by-code}
 use Rattle.setup.specs.SetUp.{Undone, none, found}
-use Rattle.engine.specs.Result.{Result, refused, accepted}
-use Rattle.engine.specs.Head.{limit}
+use Rattle.conditions.specs.Result.{Result, refused, accepted}
+use Rattle.conditions.specs.Limit.{limit}
 use Rattle.checkpoint.specs.Checkpoint.{mostGroups}
-use Rattle.engine.specs.Conditions.{setUpCheck, ready, cipherCheck, within, endOf, Course, moveCheck, undoAt, KeyAndIv, foundOr12, recoverCheck, Place, placed, Loaded, loadFound, loadCheck}
-use Rattle.engine.proofs.Conditions.{ready-accepted}
+use Rattle.conditions.specs.Conditions.{setUpCheck, ready, cipherCheck, within, endOf, Course, moveCheck, undoAt, KeyAndIv, foundOr12, recoverCheck, PositionRead, positionRead, Contents, loadFound, loadCheck}
+use Rattle.conditions.proofs.Conditions.{ready-accepted}
 use Rattle.theorems.proofs.Results.{no-refusal, accepted-one, after-line, after-without, after-unless}
 
 -- ── codes ──
@@ -162,12 +162,12 @@ pub found-shows : (u : Undone) (pair : KeyAndIv) → foundOr12 u ≡ accepted pa
 found-shows none pair e = no-refusal (sym e)
 found-shows (found k v) pair e = ap (λ (x : KeyAndIv). found (x .key) (x .iv)) (accepted-one refl e)
 
-placed-shows : (f : Found) (place : Place) → placed f ≡ accepted place → f ≡ is (place .position) (place .rest)
-placed-shows (is n rest) place e = ap (λ (x : Place). is (x .position) (x .rest)) (accepted-one refl e)
+placed-shows : (f : Found) (place : PositionRead) → positionRead f ≡ accepted place → f ≡ is (place .position) (place .rest)
+placed-shows (is n rest) place e = ap (λ (x : PositionRead). is (x .position) (x .rest)) (accepted-one refl e)
 placed-shows ended place e = no-refusal (sym e)
 placed-shows malformed place e = no-refusal (sym e)
 
-placed-not-12 : (f : Found) → placed f ≡ refused 12 → ⊥
+placed-not-12 : (f : Found) → positionRead f ≡ refused 12 → ⊥
 placed-not-12 (is n rest) e = no-refusal e
 placed-not-12 ended e = let z : _≡_ {A = ℕ} 9 12 = cc in omega arith
 placed-not-12 malformed e = let z : _≡_ {A = ℕ} 10 12 = cc in omega arith
@@ -196,7 +196,7 @@ load-finds string size c p rest h =
     )
 
 -- .. and they hold where the outcome x is no refusal but 12
-pub load-passed : (string : List ℕ) (size : ℕ) {x : Result Loaded} → Only12 x → loadCheck string size ≡ x
+pub load-passed : (string : List ℕ) (size : ℕ) {x : Result Contents} → Only12 x → loadCheck string size ≡ x
     → (c : Cipher) × (p : ℕ) × (rest : List ℕ) × LoadPassed string size c p rest × (loadFound c p rest ≡ x)
 unfolding loadCheck
 load-passed [] size only e = absurd (omega (arith, only 9 (sym e)))
@@ -204,7 +204,7 @@ load-passed (b ∷ tail) size only e =
     let read = readNumber mostGroups tail in
     after-without 1 (byCode b) _ e (λ q. omega (arith, only 1 q)) λ c e₁ r₁.
     after-unless 4 (eqb size (areaLength c)) _ r₁ (λ q. omega (arith, only 4 q)) λ e₂ r₂.
-    after-line (placed read) _ r₂ (λ n q s. placed-not-12 read (s ∙ ap refused (only n q))) λ place e₃ r₃.
+    after-line (positionRead read) _ r₂ (λ n q s. placed-not-12 read (s ∙ ap refused (only n q))) λ place e₃ r₃.
     after-unless 5 (leb (place .position) limit) _ r₃ (λ q. omega (arith, only 5 q)) λ e₄ r₄.
     after-unless 11 (eqb (length (place .rest)) (4 * areaLength c)) _ r₄ (λ q. omega (arith, only 11 q)) λ e₅ r₅. (
       c,

@@ -18,11 +18,12 @@ use Rattle.keystream.proofs.Ciphered.{length-ciphered}
 use Rattle.keystream.proofs.Keystream.{ciphered-keystream}
 use Rattle.setup.specs.SetUp as SetUp
 use Rattle.engine.specs.declared.Head.{Head}
-use Rattle.engine.specs.Result.{accepted}
-use Rattle.engine.specs.Head.{limit, headAt}
-use Rattle.engine.specs.Conditions.{cipherCheck, moveCheck}
-use Rattle.engine.specs.Calls.{Engine, Ciphered, cipher, move, recover}
-use Rattle.engine.proofs.Conditions.{ready-accepted}
+use Rattle.conditions.specs.Result.{accepted}
+use Rattle.conditions.specs.Limit.{limit}
+use Rattle.engine.specs.Head.{headAt}
+use Rattle.conditions.specs.Conditions.{cipherCheck, moveCheck}
+use Rattle.engine.specs.Calls.{Engine, engineOf, Ciphered, cipher, move, recover}
+use Rattle.conditions.proofs.Conditions.{ready-accepted}
 use Rattle.theorems.specs.Account.{Four, IsFour, holds, tablesOf}
 use Rattle.theorems.specs.Demand2.{Demand2}
 use Rattle.theorems.proofs.Results.{no-refusal, accepted-one, after-line}
@@ -59,7 +60,7 @@ four-enciphered f area bytes r t e i l =
 
 four-recovered : (f : Four) (area key iv : List ℕ) → IsFour f → area ≡ tablesOf f
     → length key ≡ keyLength (f .cipher) → length iv ≡ ivLength (f .cipher)
-    → recover (headOf (holds f)) area key iv ≡ accepted (record { head = headOf (holds f); key = f .key; iv = f .iv })
+    → recover (headOf (holds f)) area key iv ≡ accepted (record { engine = engineOf (headOf (holds f)) area; key = f .key; iv = f .iv })
 unfolding recover tablesOf
 four-recovered f area key iv h t kn vn =
     let r =

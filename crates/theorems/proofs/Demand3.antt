@@ -15,13 +15,13 @@ use Rattle.cipher.specs.declared.Cipher.{Cipher}
 use Rattle.cipher.specs.Numbers.{codeOf, areaLength}
 use Rattle.cipher.proofs.Codes.{code-of}
 use Rattle.engine.specs.declared.Head.{Head}
-use Rattle.engine.specs.Result.{Result, refused, accepted}
+use Rattle.conditions.specs.Result.{Result, refused, accepted}
 use Rattle.engine.specs.Head.{headAt}
 use Rattle.checkpoint.specs.Checkpoint.{layout, room}
 use Rattle.checkpoint.proofs.Checkpoint.{layout-room}
-use Rattle.engine.specs.Conditions.{ready, Loaded, loadCheck}
-use Rattle.engine.specs.Calls.{Written, Opened, eightWords, write, load}
-use Rattle.engine.proofs.Conditions.{set-up-accepted, ready-accepted}
+use Rattle.conditions.specs.Conditions.{ready, Contents, loadCheck}
+use Rattle.engine.specs.Calls.{Written, Loaded, eightWords, write, load}
+use Rattle.conditions.proofs.Conditions.{set-up-accepted, ready-accepted}
 use Rattle.theorems.specs.Account.{Call, call-set-up, call-move, call-load, AllGiven, Four, IsFour, Account, empty, holds, unless-refused, feed, account, engineAfter, accountAfter, tablesOf, checkpointOf, Checkpoint}
 use Rattle.theorems.specs.Demand3.{writeAfter, given, Names, Demand3}
 use Rattle.theorems.proofs.Results.{no-refusal, accepted-one, after-line, after-unless}
@@ -79,7 +79,7 @@ write-gives empty area lent w t e =
     absurd (no-code-0 c (s .is-ready .code-is))
 write-gives (holds f) area lent w t e =
     let s = four-write-shows f area lent w e in
-    (f, refl, record { isFour = t .0; isString = s .string ∙ ap (layout (f .cipher) (f .position)) (t .1) })
+    (f, refl, record { is-four = t .0; string-is = s .string ∙ ap (layout (f .cipher) (f .position)) (t .1) })
 
 written :
     (calls : List Call) → AllGiven calls → (area lent : List ℕ) (w : Written)
@@ -138,14 +138,14 @@ compared :
 compared calls calls′ g g′ area area′ lent lent′ w w′ e e′ =
     let (f, a, h) = written calls g area lent w e in
     let (f′, a′, h′) = written calls′ g′ area′ lent′ w′ e′ in (
-      (λ s. a ∙ ap holds (checkpoint-of-one (given w) f f′ h (record { isFour = h′ .isFour; isString = s ∙ h′ .isString })) ∙ sym a′),
-      (λ s. let same : f ≡ f′ = cc in h .isString ∙ ap checkpointOf same ∙ sym (h′ .isString)),
+      (λ s. a ∙ ap holds (checkpoint-of-one (given w) f f′ h (record { is-four = h′ .is-four; string-is = s ∙ h′ .string-is })) ∙ sym a′),
+      (λ s. let same : f ≡ f′ = cc in h .string-is ∙ ap checkpointOf same ∙ sym (h′ .string-is)),
     )
 
 -- ── what is loaded ──
 
 -- the answer of an accepted load
-abbrev openedOf : Loaded → Opened
+abbrev openedOf : Contents → Loaded
 openedOf l = record {
   engine = record { head = headAt (codeOf (l .cipher)) (l .position); area = l .area };
   key = eightWords (l .key);
@@ -153,8 +153,8 @@ openedOf l = record {
 }
 
 module _ {C : Type 0} where
-  after-load : (string area : List ℕ) (o : Opened) → load string area ≡ accepted o
-      → ((l : Loaded) → loadCheck string (length area) ≡ accepted l → openedOf l ≡ o → C) → C
+  after-load : (string area : List ℕ) (o : Loaded) → load string area ≡ accepted o
+      → ((l : Contents) → loadCheck string (length area) ≡ accepted l → openedOf l ≡ o → C) → C
   unfolding load
   after-load string area o e k = after-line (loadCheck string (length area)) _ e (λ _. no-refusal) λ l e₁ r₁. k l e₁ (accepted-one refl r₁)
 
@@ -165,7 +165,7 @@ load-accepted string area f h z = rw (load-checkpoint string (length area) f h z
 
 loaded :
     (string area : List ℕ) → AllBytes string
-    → ((o : Opened) × (load string area ≡ accepted o)) ↔ ((f : Four) × Checkpoint string f × (length area ≡ areaLength (f .cipher)))
+    → ((o : Loaded) × (load string area ≡ accepted o)) ↔ ((f : Four) × Checkpoint string f × (length area ≡ areaLength (f .cipher)))
 loaded string area all = (
   (λ t.
       after-load string area (t .0) (t .1) λ l e r.
@@ -174,10 +174,10 @@ loaded string area all = (
   (λ t. (_, load-accepted string area (t .0) (t .1) (t .2))),
 )
 
-named : (string area : List ℕ) (o : Opened) (f : Four) → load string area ≡ accepted o → Checkpoint string f → Names o f
+named : (string area : List ℕ) (o : Loaded) (f : Four) → load string area ≡ accepted o → Checkpoint string f → Names o f
 named string area o f e h =
     after-load string area o e λ l e₁ r₁.
-    subst (λ (x : Opened). Names x f) (sym (ap openedOf (load-is string (length area) l f e₁ h)) ∙ r₁)
+    subst (λ (x : Loaded). Names x f) (sym (ap openedOf (load-is string (length area) l f e₁ h)) ∙ r₁)
     (record { code = refl; position = refl; key = refl; iv = refl })
 
 feed-load :

@@ -3,6 +3,7 @@ pub mod Starred
 pub mod Stream
 pub mod Results
 pub mod Tables
+pub mod Zeros
 pub mod Conditions
 pub mod Checkpoints
 pub mod Names

@@ -9,7 +9,7 @@ use Rattle.word.proofs.Bytes.{bytes-words, length-words}
 use Rattle.cipher.specs.declared.Cipher.{Cipher}
 use Rattle.cipher.specs.declared.Cipher.the-variants.{Hc128, Hc256}
 use Rattle.cipher.specs.Numbers.{keyLength, ivLength}
-use Rattle.engine.specs.Calls.{Opened, eightWords}
+use Rattle.engine.specs.Calls.{Loaded, eightWords}
 use Rattle.theorems.specs.Account.{Four, IsFour}
 use Rattle.theorems.specs.Demand3.{Names}
 use Rattle.theorems.proofs.Conditions.{same-code}
@@ -26,7 +26,7 @@ whole-words : (c : Cipher) → (n : ℕ) × (keyLength c ≡ 4 * n) × (ivLength
 whole-words Hc128 = (4, refl, refl)
 whole-words Hc256 = (8, refl, refl)
 
-pub name-of-one : (o : Opened) (f g : Four) → IsFour f → IsFour g → Names o f → Names o g → f ≡ g
+pub name-of-one : (o : Loaded) (f g : Four) → IsFour f → IsFour g → Names o f → Names o g → f ≡ g
 name-of-one o f g hf hg nf ng =
     let c : f .cipher ≡ g .cipher = same-code (f .cipher) (g .cipher) (sym (nf .code) ∙ ng .code) in
     let (n, kn, vn) = whole-words (g .cipher) in

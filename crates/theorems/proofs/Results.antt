@@ -5,7 +5,7 @@ use mathlib.Core.Option.{Option, none, some}
 use mathlib.Core.Logic.{_↔_}
 use Prim.Native.Nat.{ℕ}
 use native.Mathlib.Omega.{arith}
-use Rattle.engine.specs.Result.{Result, refused, accepted, left, _>>=_, _>>_, refuse_unless_, refuse_without_}
+use Rattle.conditions.specs.Result.{Result, refused, accepted, outcome, _>>=_, _>>_, refuse_unless_, refuse_without_}
 
 module _ {A : Type 0} where
   -- what is accepted is no refusal, so any C follows
@@ -16,10 +16,10 @@ module _ {A : Type 0} where
   accepted-one p q = cc
 
   -- what an accepted call and its refusal both leave as it was
-  pub left-same : {B : Type 0} (part : A → B) (old : A) (r : Result A)
-      → ((new : A) → r ≡ accepted new → part new ≡ part old) → part (left old r .value) ≡ part old
-  left-same part old (refused n) h = refl
-  left-same part old (accepted new) h = h new refl
+  pub outcome-same : {B : Type 0} (part : A → B) (old : A) (r : Result A)
+      → ((new : A) → r ≡ accepted new → part new ≡ part old) → part (outcome old r .value) ≡ part old
+  outcome-same part old (refused n) h = refl
+  outcome-same part old (accepted new) h = h new refl
 
 module _ {A B : Type 0} where
   -- a block whose last line accepts is refused exactly where the lines before it are

@@ -18,7 +18,7 @@ use Rattle.keystream.proofs.Positions.{moved-up, moved-down}
 use Rattle.keystream.proofs.Inverse.{steps-area, steps-back-area, steps-undone, steps-redone}
 use Rattle.setup.specs.SetUp.{setUp, found}
 use Rattle.setup.proofs.Inverse.{set-up-area, set-up-undone, set-up-redone}
-use Rattle.engine.specs.Conditions.{undoAt}
+use Rattle.conditions.specs.Conditions.{undoAt}
 use Rattle.theorems.specs.Account.{Four, IsFour, tablesOf}
 
 -- ── moves ──

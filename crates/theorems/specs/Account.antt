@@ -10,10 +10,11 @@ use Rattle.cipher.specs.Numbers.{codeOf}
 use Rattle.schedule.specs.Key.{Pair}
 use Rattle.keystream.specs.Steps.{steps, stepsAt}
 use Rattle.setup.specs.SetUp as SetUp
-use Rattle.engine.specs.Result.{Result, refused, accepted}
-use Rattle.engine.specs.Head.{limit, freshHead}
-use Rattle.engine.specs.Conditions.{setUpCheck, cipherCheck, moveCheck, loadCheck}
-use Rattle.engine.specs.Calls.{Engine, setUpCall, cipherCall, moveCall, writeCall, recoverCall, loadCall, spentCall}
+use Rattle.conditions.specs.Result.{Result, refused, accepted}
+use Rattle.conditions.specs.Limit.{limit}
+use Rattle.engine.specs.Head.{freshHead}
+use Rattle.conditions.specs.Conditions.{setUpCheck, cipherCheck, moveCheck, loadCheck}
+use Rattle.engine.specs.Calls.{Engine, engineOf, setUpCall, cipherCall, moveCall, writeCall, recoverCall, loadCall, spentCall}
 use Rattle.checkpoint.specs.Checkpoint.{layout}
 
 -- ── lists of calls ──
@@ -47,10 +48,10 @@ unfoldable pub called : Engine → Call → Engine
 called e (call-set-up code key iv) = setUpCall (e .head) code key iv (e .area) .value
 called e (call-cipher bytes) = cipherCall (e .head) (e .area) bytes .value .engine
 called e (call-move distance) = moveCall (e .head) (e .area) distance .value
-called e (call-write lent) = record { head = writeCall (e .head) (e .area) lent .value .head; area = e .area }
-called e (call-recover key iv) = record { head = recoverCall (e .head) (e .area) key iv .value .head; area = e .area }
+called e (call-write lent) = writeCall (e .head) (e .area) lent .value .engine
+called e (call-recover key iv) = recoverCall (e .head) (e .area) key iv .value .engine
 called e (call-load string) = loadCall (e .head) string (e .area) .value .engine
-called e call-spent = record { head = spentCall (e .head) .value .head; area = e .area }
+called e call-spent = engineOf (spentCall (e .head) .value .head) (e .area)
 
 unfoldable pub run : List Call → Engine → Engine
 run [] e = e
@@ -116,7 +117,7 @@ account size (call ∷ calls) a = account size calls (feed size a call)
 
 -- 'a list begins with a fresh head, an empty account and an area of any size and content'
 abbrev pub engineAfter : List Call → List ℕ → Engine
-engineAfter calls area = run calls (record { head = freshHead; area = area })
+engineAfter calls area = run calls (engineOf freshHead area)
 
 abbrev pub accountAfter : List Call → List ℕ → Account
 accountAfter calls area = account (length area) calls empty
@@ -132,5 +133,5 @@ checkpointOf f = layout (f .cipher) (f .position) (tablesOf f)
 
 -- the string is the checkpoint of the four
 pub record Checkpoint (string : List ℕ) (f : Four) : Type 0 where
-  pub isFour : IsFour f
-  pub isString : string ≡ checkpointOf f
+  pub is-four : IsFour f
+  pub string-is : string ≡ checkpointOf f

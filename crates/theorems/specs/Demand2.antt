@@ -11,8 +11,8 @@ use Rattle.cipher.specs.Numbers.{keyLength, ivLength}
 use Rattle.keystream.specs.Keystream.{keystream}
 use Rattle.setup.specs.SetUp as SetUp
 use Rattle.engine.specs.declared.Head.{Head}
-use Rattle.engine.specs.Result.{accepted}
-use Rattle.engine.specs.Head.{limit}
+use Rattle.conditions.specs.Result.{accepted}
+use Rattle.conditions.specs.Limit.{limit}
 use Rattle.engine.specs.Calls.{Engine, Ciphered, cipher, move, recover}
 use Rattle.theorems.specs.Account.{Call, AllGiven, Four, holds, engineAfter, accountAfter}
 
@@ -37,7 +37,7 @@ pub record Demand2 : Type 0 where
       (calls : List Call) → AllGiven calls → (area key iv : List ℕ) (f : Four) → accountAfter calls area ≡ holds f
       → length key ≡ keyLength (f .cipher) → length iv ≡ ivLength (f .cipher)
       → recover (engineAfter calls area .head) (engineAfter calls area .area) key iv
-      ≡ accepted (record { head = engineAfter calls area .head; key = f .key; iv = f .iv })
+      ≡ accepted (record { engine = engineAfter calls area; key = f .key; iv = f .iv })
   -- Ciphering keeps the number of bytes.
   pub as-long : (h : Head) (area bytes : List ℕ) (r : Ciphered) → cipher h area bytes ≡ accepted r → length (r .bytes) ≡ length bytes
   -- Where a move by d is accepted, so is the move back by -d, and it restores head and tables.

@@ -6,8 +6,8 @@ use Prim.Native.Nat.{ℕ, _≤_}
 use lib.ListN.{length, take, drop}
 use Rattle.word.specs.Bytes.{AllBytes}
 use Rattle.cipher.specs.Numbers.{codeOf, areaLength}
-use Rattle.engine.specs.Result.{Result, accepted}
-use Rattle.engine.specs.Calls.{Written, Opened, eightWords, write, load}
+use Rattle.conditions.specs.Result.{Result, accepted}
+use Rattle.engine.specs.Calls.{Written, Loaded, eightWords, write, load}
 use Rattle.checkpoint.specs.Checkpoint.{room}
 use Rattle.theorems.specs.Account.{Call, AllGiven, Four, IsFour, Account, holds, feed, call-load, engineAfter, accountAfter, Checkpoint}
 
@@ -20,7 +20,7 @@ abbrev pub given : Written → List ℕ
 given w = take (w .length) (w .lent)
 
 -- 'loading names a four by the next head's code and position and the returned key and IV words'
-pub record Names (o : Opened) (f : Four) : Type 0 where
+pub record Names (o : Loaded) (f : Four) : Type 0 where
   pub code : o .engine .head .code ≡ codeOf (f .cipher)
   pub position : o .engine .head .position ≡ f .position
   pub key : o .key ≡ eightWords (f .key)
@@ -55,11 +55,11 @@ pub record Demand3 : Type 0 where
   -- The loader accepts exactly the checkpoints of fours, where the area has that cipher's size, ..
   pub loaded :
       (string area : List ℕ) → AllBytes string
-      → ((o : Opened) × (load string area ≡ accepted o)) ↔ ((f : Four) × Checkpoint string f × (length area ≡ areaLength (f .cipher)))
+      → ((o : Loaded) × (load string area ≡ accepted o)) ↔ ((f : Four) × Checkpoint string f × (length area ≡ areaLength (f .cipher)))
   -- .. and names the four.
-  pub named : (string area : List ℕ) (o : Opened) (f : Four) → load string area ≡ accepted o → Checkpoint string f → Names o f
+  pub named : (string area : List ℕ) (o : Loaded) (f : Four) → load string area ≡ accepted o → Checkpoint string f → Names o f
   -- No two fours share a name, and none share a checkpoint.
-  pub name-of-one : (o : Opened) (f g : Four) → IsFour f → IsFour g → Names o f → Names o g → f ≡ g
+  pub name-of-one : (o : Loaded) (f g : Four) → IsFour f → IsFour g → Names o f → Names o g → f ≡ g
   pub checkpoint-of-one : (string : List ℕ) (f g : Four) → Checkpoint string f → Checkpoint string g → f ≡ g
   -- The account's load is the four whose checkpoint the string is; it changes nothing where the string is no checkpoint or the size another.
   pub feed-load :

@@ -1,4 +1,4 @@
--- Refusal 12 is given exactly when no key and IV have these tables at this position, where the conditions before it hold.
+-- Refusal 12 is given exactly when no key and IV have these tables at this position, where the conditions before it hold; and it does occur.
 use mathlib.Core.Path.{_≡_}
 use mathlib.Core.List.{List}
 use mathlib.Core.Logic.{_↔_}
@@ -13,8 +13,9 @@ use Rattle.keystream.specs.Steps.{steps, stepsAt}
 use Rattle.setup.specs.SetUp as SetUp
 use Rattle.checkpoint.specs.Checkpoint.{layout}
 use Rattle.engine.specs.declared.Head.{Head}
-use Rattle.engine.specs.Result.{refused}
-use Rattle.engine.specs.Head.{limit}
+use Rattle.conditions.specs.Result.{refused}
+use Rattle.conditions.specs.Limit.{limit}
+use Rattle.engine.specs.Head.{headAt}
 use Rattle.engine.specs.Calls.{recover, load}
 
 -- no key and IV of the cipher's lengths have these tables at this position
@@ -45,3 +46,10 @@ pub record LoadNone (string area : List ℕ) : Type 0 where
 pub record Refusal12 : Type 0 where
   pub of-recover : (h : Head) (area key iv : List ℕ) → AllWords area → recover h area key iv ≡ refused 12 ↔ RecoverNone h area key iv
   pub of-load : (string area : List ℕ) → AllBytes string → load string area ≡ refused 12 ↔ LoadNone string area
+  -- 'Refusal 12 does occur': for both ciphers and at every position some area is refused with 12 by recover, whatever buffers of the cipher's
+  -- lengths are lent, and as the tables of a checkpoint by load, whatever area of the cipher's size is lent.
+  pub occurs :
+      (c : Cipher) (p : ℕ) → p ≤ limit
+      → (s : List ℕ) × Area c s
+      × ((key iv : List ℕ) → length key ≡ keyLength c → length iv ≡ ivLength c → recover (headAt (codeOf c) p) s key iv ≡ refused 12)
+      × ((area : List ℕ) → length area ≡ areaLength c → load (layout c p s) area ≡ refused 12)

@@ -10,7 +10,7 @@ use Rattle.tables.specs.Functions.{g128, h128, h256}
 use Rattle.schedule.specs.Expansion.{expansion}
 use Rattle.schedule.specs.Key.{sixteen}
 use Rattle.keystream.specs.Steps.{stepsAt}
-use Rattle.engine.specs.Head.{limit}
+use Rattle.conditions.specs.Limit.{limit}
 
 -- what stands under one star: numbers, or strings of bytes
 pub record Example : Type 0 where

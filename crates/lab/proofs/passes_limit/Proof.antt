@@ -5,7 +5,7 @@ use Prim.Native.Nat.{ℕ, _+_, _-_, _≤_, _<_}
 use native.Mathlib.Omega.{arith}
 use borrow.Author.Tests.{lt-ltb, le-ltb, ltb-true, ltb-false}
 use lib.Dec.{ltb}
-use Rattle.engine.specs.Head.{limit}
+use Rattle.conditions.specs.Limit.{limit}
 use Rattle.lab.proofs.passes_limit.Statement.{statement}
 use Rattle.lab.proofs.passes_limit.Tie as tie
 

@@ -14,28 +14,28 @@ use Rattle.engine.proofs.Head.load.Statement.{statement}
 use Rattle.engine.proofs.Head.load.Tie as tie
 
 returns : tie.Need-returns
-returns c = rw (c .not-loaded .ensures) (load-refused _ _ _ _ (c .before .before .open-check .ensures .refused-is (c .before .if1 .taken)))
+returns c = rw (c .not-loaded .ensures) (load-refused _ _ _ _ (c .before .before .load-check .ensures .refused-is (c .before .if1 .taken)))
 
 of-string-requires : tie.Need-of-string-requires
 of-string-requires c κs =
-    let opening = c .before .open-check .ensures in
-    let l = opening .within (c .if1 .left) in
-    (opening .string-is (c .if1 .left), omega arith)
+    let beginning = c .before .load-check .ensures in
+    let l = beginning .within (c .if1 .left) in
+    (beginning .string-is (c .if1 .left), omega arith)
 
 returns-2 : tie.Need-returns-2
 returns-2 c =
-    let opened = c .before .before .before in
+    let begun = c .before .before .before in
     rw (c .not-loaded2 .ensures)
-    (load-none _ _ _ _ _ _ (opened .before .open-check .ensures .passed-is (opened .if1 .left))
+    (load-none _ _ _ _ _ _ (begun .before .load-check .ensures .passed-is (begun .if1 .left))
     (sym (c .before .before .of-string .ensures .filled-is) ∙ not-true _ (c .before .if2 .taken)))
 
 read-words-requires : tie.Need-read-words-requires
 read-words-requires c κs =
-    let opened = c .before .before .before .before in
-    let opening = opened .before .open-check .ensures in
-    let a = opening .area-is (opened .if1 .left) in
-    let s = opening .string-is (opened .if1 .left) in
-    let z = sizes (opened .before .open-check .result .cipher) in
+    let begun = c .before .before .before .before in
+    let beginning = begun .before .load-check .ensures in
+    let a = beginning .area-is (begun .if1 .left) in
+    let s = beginning .string-is (begun .if1 .left) in
+    let z = sizes (begun .before .load-check .result .cipher) in
     (omega arith, omega arith)
 
 -- the words that were found are sixteen words
@@ -51,13 +51,13 @@ returns-3 c =
     let ived = coded .before in
     let keyed = ived .before in
     let filled = keyed .before .before .before .before .before .before in
-    let opened = filled .before .before in
-    let opening = opened .before .open-check in
+    let begun = filled .before .before in
+    let beginning = begun .before .load-check in
     let found = filled .before .of-string in
     let w = found .result .words in
-    load-done _ _ _ _ _ _ (opening .ensures .passed-is (opened .if1 .left)) _ _ _ _
+    load-done _ _ _ _ _ _ (beginning .ensures .passed-is (begun .if1 .left)) _ _ _ _
     (sym (found .ensures .filled-is) ∙ not-false _ (filled .if2 .left))
-    (c .at .ensures ∙ ap (λ (x : ℕ). headAt x (opening .result .position)) (coded .code-of .ensures))
+    (c .at .ensures ∙ ap (λ (x : ℕ). headAt x (beginning .result .position)) (coded .code-of .ensures))
     (keyed .before .before .before .read-words .ensures)
     (key-words _ w _ (λ k. words-fit (filled .before) k .fits) (sixteen (filled .before)) (found .ensures .words-are) _ _ (keyed .key-bytes .ensures .0) (c .before .before .eight-words .ensures))
     (iv-words _ w _ (λ k. words-fit (filled .before) k .fits) (sixteen (filled .before)) (found .ensures .words-are) _ _ (ived .iv-bytes .ensures .0) (c .before .eight-words2 .ensures))

@@ -1,19 +1,20 @@
 -- `Head::write` meets its contract: the checkpoint is put where every condition holds, and only there. Assumes nothing.
 use native.Mathlib.Omega.{arith}
 use borrow.Author.Needs.{needs}
-use Rattle.engine.proofs.Checks.{is-refused, is-accepted}
+use Rattle.conditions.proofs.Checks.{is-refused, is-accepted}
 use Rattle.engine.proofs.Calls.{write-refused, write-small, write-done}
 use Rattle.engine.proofs.Head.write.Statement.{statement}
 use Rattle.engine.proofs.Head.write.Tie as tie
 
 returns : tie.Need-returns
-returns c = write-refused _ _ _ _ (is-refused _ _ _ (c .before .ready .ensures .0) (c .if1 .taken))
+returns c =
+    rw (c .not-written .ensures) (write-refused _ _ _ _ (is-refused _ _ _ (c .before .before .ready .ensures .0) (c .before .if1 .taken)))
 
 returns-2 : tie.Need-returns-2
 returns-2 c =
-    let tested = c .before .before in
-    let e = c .before .room .ensures .0 in
-    write-small _ _ _ _ (is-accepted _ _ _ (tested .before .ready .ensures .0) (tested .if1 .left)) (omega arith)
+    let tested = c .before .before .before in
+    let e = c .before .before .room .ensures .0 in
+    rw (c .not-written2 .ensures) (write-small _ _ _ _ (is-accepted _ _ _ (tested .before .ready .ensures .0) (tested .if1 .left)) (omega arith))
 
 write-checkpoint-requires : tie.Need-write-checkpoint-requires
 write-checkpoint-requires c κs =
@@ -33,5 +34,5 @@ returns-3 c =
 
 pub write-spec : {M : Type 1} → statement M
 write-spec =
-    let a₁ = tie.spec (λ c κs. search needs) returns (λ c κs. search needs) returns-2 write-checkpoint-requires in
-    tie.close (a₁ (λ c. search needs) returns-3)
+    let a₁ = tie.spec (λ c κs. search needs) (λ c κs. search needs) returns (λ c κs. search needs) (λ c κs. search needs) returns-2 in
+    tie.close (a₁ write-checkpoint-requires (λ c. search needs) returns-3)

@@ -5,11 +5,9 @@ use Prim.Native.Nat.{ℕ, _≤_, _<_}
 use borrow.Author.Tests.{eq-eqb, ne-eqb, le-leb, lt-leb}
 use Rattle.cipher.specs.declared.Cipher.{Cipher}
 use Rattle.cipher.specs.Numbers.{byCode, areaLength, keyLength, ivLength}
-use Rattle.engine.specs.declared.Head.{Head}
-use Rattle.engine.specs.Result.{refused, accepted}
-use Rattle.engine.specs.Head.{limit}
-use Rattle.engine.specs.Conditions.{setUpCheck, ready}
-use Rattle.engine.specs.Calls.{spent}
+use Rattle.conditions.specs.Result.{refused, accepted}
+use Rattle.conditions.specs.Limit.{limit}
+use Rattle.conditions.specs.Conditions.{setUpCheck, ready}
 
 -- ---- set up
 
@@ -54,19 +52,3 @@ module _ (code position size : ℕ) where
     pub ready-accepted : size ≡ areaLength c → position ≤ limit → ready code position size ≡ accepted c
     unfolding ready
     ready-accepted s l = rw (e, eq-eqb size (areaLength c) s, le-leb position limit l)
-
--- ---- spent
-
-module _ (h : Head) where
-  pub spent-unknown : byCode (h .code) ≡ none → spent h ≡ refused 1
-  unfolding spent
-  spent-unknown e = rw e
-
-  module _ (c : Cipher) (e : byCode (h .code) ≡ some c) where
-    pub spent-over : limit < h .position → spent h ≡ refused 5
-    unfolding spent
-    spent-over l = rw (e, lt-leb (h .position) limit l)
-
-    pub spent-accepted : h .position ≤ limit → spent h ≡ accepted (record { head = h; count = h .position })
-    unfolding spent
-    spent-accepted l = rw (e, le-leb (h .position) limit l)

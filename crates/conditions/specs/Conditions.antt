@@ -14,8 +14,8 @@ use Rattle.setup.specs.SetUp as SetUp
 use Rattle.setup.specs.SetUp.{Undone, undo}
 use Rattle.varint.specs.Number.{Found, is, ended, malformed, readNumber}
 use Rattle.checkpoint.specs.Checkpoint.{mostGroups}
-use Rattle.engine.specs.Result.{Result, refused, accepted, _>>=_, _>>_, refuse_unless_, refuse_without_}
-use Rattle.engine.specs.Head.{limit}
+use Rattle.conditions.specs.Result.{Result, refused, accepted, _>>=_, _>>_, refuse_unless_, refuse_without_}
+use Rattle.conditions.specs.Limit.{limit}
 
 -- **Set up** 1: cipher code is neither 1 nor 2. 2: key length. 3: IV length. 4: area is not 2T words.
 unfoldable pub setUpCheck : (code keySize ivSize size : ℕ) → Result Cipher
@@ -85,21 +85,21 @@ recoverCheck code position area keySize ivSize = do
 
 -- the position of a checkpoint. 10: a fourth group announces another. 9: the string ends before the last group. 10: the last of two or more
 -- groups is 0.
-pub record Place : Type 0 where
+pub record PositionRead : Type 0 where
   pub position : ℕ
   pub rest : List ℕ
 
-abbrev pub placed : Found → Result Place
-placed (is value rest) = accepted (record { position = value; rest = rest })
-placed ended = refused 9
-placed malformed = refused 10
+abbrev pub positionRead : Found → Result PositionRead
+positionRead (is value rest) = accepted (record { position = value; rest = rest })
+positionRead ended = refused 9
+positionRead malformed = refused 10
 
 abbrev pub firstByte : List ℕ → Option ℕ
 firstByte [] = none
 firstByte (b ∷ string) = some b
 
 -- what a checkpoint holds, with the key and the IV of its tables
-pub record Loaded : Type 0 where
+pub record Contents : Type 0 where
   pub cipher : Cipher
   pub key : List ℕ
   pub iv : List ℕ
@@ -107,18 +107,18 @@ pub record Loaded : Type 0 where
   pub area : List ℕ
 
 -- the last condition of load, 12, and what the checkpoint holds
-abbrev pub loadFound : Cipher → ℕ → List ℕ → Result Loaded
+abbrev pub loadFound : Cipher → ℕ → List ℕ → Result Contents
 loadFound c position rest = do
   pair ← foundOr12 (undoAt c (words rest) position)
   accepted (record { cipher = c; key = pair .key; iv = pair .iv; position = position; area = words rest })
 
 -- **Load** 9: no bytes. 1: first byte. 4: area. 10, 9, 10: the position. 5: over the limit. 11: the bytes left are not 4 times 2T. 12.
-unfoldable pub loadCheck : (string : List ℕ) (size : ℕ) → Result Loaded
+unfoldable pub loadCheck : (string : List ℕ) (size : ℕ) → Result Contents
 loadCheck string size = do
   code ← refuse 9 without firstByte string
   c ← refuse 1 without byCode code
   refuse 4 unless eqb size (areaLength c)
-  place ← placed (readNumber mostGroups (drop 1 string))
+  place ← positionRead (readNumber mostGroups (drop 1 string))
   refuse 5 unless leb (place .position) limit
   refuse 11 unless eqb (length (place .rest)) (4 * areaLength c)
   loadFound c (place .position) (place .rest)

@@ -5,10 +5,10 @@ use native.Mathlib.Omega.{arith}
 use borrow.Author.Needs.{needs}
 use Rattle.cipher.specs.Answers.{cipherIs}
 use Rattle.cipher.specs.Numbers.{byCode}
-use Rattle.engine.proofs.Conditions.{set-up-unknown, set-up-key, set-up-iv, set-up-other-size, set-up-accepted}
-use Rattle.engine.proofs.Checks.{refused-sized, passed-sized}
-use Rattle.engine.proofs.set_up_check.Statement.{statement}
-use Rattle.engine.proofs.set_up_check.Tie as tie
+use Rattle.conditions.proofs.Conditions.{set-up-unknown, set-up-key, set-up-iv, set-up-other-size, set-up-accepted}
+use Rattle.conditions.proofs.Checks.{refused-sized, passed-sized}
+use Rattle.conditions.proofs.set_up_check.Statement.{statement}
+use Rattle.conditions.proofs.set_up_check.Tie as tie
 
 returns : tie.Need-returns
 returns c =

@@ -3,10 +3,10 @@ use mathlib.Core.Path.{_≡_, sym, _∙_}
 use borrow.Author.Needs.{needs}
 use mir.Syntax.{w64}
 use mir.ValLaws.{toZ-ofZ}
-use Rattle.engine.specs.Checks.{distanceIs}
-use Rattle.engine.proofs.Ends.{reaches-on, passes-limit, below-zero, reaches-back}
-use Rattle.engine.proofs.end_of.Statement.{statement}
-use Rattle.engine.proofs.end_of.Tie as tie
+use Rattle.conditions.specs.Checks.{distanceIs}
+use Rattle.conditions.proofs.Ends.{reaches-on, passes-limit, below-zero, reaches-back}
+use Rattle.conditions.proofs.end_of.Statement.{statement}
+use Rattle.conditions.proofs.end_of.Tie as tie
 
 -- a signed argument reaches the callee as it is read back from its bits
 split : (c : tie.After-split-distance) → distanceIs (c .before .args .distance) ≡ c .split-distance .result

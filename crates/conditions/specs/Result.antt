@@ -29,11 +29,12 @@ abbrev pub refuse_without_ : {A : Type 0} → ℕ → Option A → Result A
 refuse_without_ n none = refused n
 refuse_without_ n (some a) = accepted a
 
--- 'a refusal is its number alone; head and every lent byte keep their values': what is left after a call, where `old` is what was there
-pub record Left (A : Type 0) : Type 0 where
+-- 'A refusal is its number alone; head and every lent byte keep their values': the refusal number, 0 where the call is accepted, and what the
+-- call leaves; `old` is what was there before it.
+pub record Outcome (A : Type 0) : Type 0 where
   pub refusal : ℕ
   pub value : A
 
-abbrev pub left : {A : Type 0} → A → Result A → Left A
-left old (refused n) = record { refusal = n; value = old }
-left old (accepted new) = record { refusal = 0; value = new }
+abbrev pub outcome : {A : Type 0} → A → Result A → Outcome A
+outcome old (refused n) = record { refusal = n; value = old }
+outcome old (accepted new) = record { refusal = 0; value = new }

@@ -6,14 +6,14 @@ use borrow.Author.Tests.{eq-eqb, ne-eqb}
 use Rattle.cipher.specs.declared.Cipher.{Cipher}
 use Rattle.cipher.specs.declared.Cipher.the-variants.{Hc128}
 use Rattle.cipher.specs.Numbers.{areaLength, keyLength, ivLength}
-use Rattle.engine.specs.declared.Checked.{Checked}
-use Rattle.engine.specs.Result.{Result, refused, accepted}
-use Rattle.engine.specs.Head.{limit}
-use Rattle.engine.specs.Checks.{outcome, checkedIs, Sized, Ready}
+use Rattle.conditions.specs.declared.Checked.{Checked}
+use Rattle.conditions.specs.Result.{Result, refused, accepted}
+use Rattle.conditions.specs.Limit.{limit}
+use Rattle.conditions.specs.Checks.{resultOf, checkedIs, Sized, Ready}
 
 -- ---- what a caller learns
 
-module _ {A : Type 0} (n : ℕ) (a : A) (X : Result A) (e : outcome n a ≡ X) where
+module _ {A : Type 0} (n : ℕ) (a : A) (X : Result A) (e : resultOf n a ≡ X) where
   pub is-refused : (n ≡ 0 → ⊥) → X ≡ refused n
   is-refused h = sym e ∙ rw (ne-eqb n 0 h)
 

@@ -11,11 +11,11 @@ use Rattle.cipher.specs.declared.Cipher.the-variants.{Hc128}
 use Rattle.cipher.specs.Numbers.{byCode, areaLength}
 use Rattle.varint.specs.Number.{readNumber}
 use Rattle.checkpoint.specs.Checkpoint.{mostGroups}
-use Rattle.engine.specs.declared.Opening.{Opening}
-use Rattle.engine.specs.Result.{refused, accepted}
-use Rattle.engine.specs.Head.{limit}
-use Rattle.engine.specs.Conditions.{placed, firstByte, loadCheck}
-use Rattle.engine.specs.Checks.{OpeningIs}
+use Rattle.conditions.specs.declared.Beginning.{Beginning}
+use Rattle.conditions.specs.Result.{refused, accepted}
+use Rattle.conditions.specs.Limit.{limit}
+use Rattle.conditions.specs.Conditions.{positionRead, firstByte, loadCheck}
+use Rattle.conditions.specs.Checks.{BeginningIs}
 
 first-byte : (string : List ℕ) → (length string ≡ 0 → ⊥) → firstByte string ≡ some (getD string 0 0)
 first-byte [] h = absurd (h refl)
@@ -26,11 +26,11 @@ no-byte [] h = refl
 no-byte (b ∷ string) h = absurd (omega arith)
 
 -- a refusal, whatever its number, as the code answers it
-module _ (string : List ℕ) (size : ℕ) (r : Opening) where
+module _ (string : List ℕ) (size : ℕ) (r : Beginning) where
   refuses : (n : ℕ) → (n ≡ 0 → ⊥) → r ≡ record { refusal = n; cipher = Hc128; position = 0; next = 0 } → loadCheck string size ≡ refused n
-      → OpeningIs string size r
+      → BeginningIs string size r
   refuses n h e x =
-      let never : r .refusal ≡ 0 → ⊥ = λ z. h (sym (ap (λ (q : Opening). q .refusal) e) ∙ z) in
+      let never : r .refusal ≡ 0 → ⊥ = λ z. h (sym (ap (λ (q : Beginning). q .refusal) e) ∙ z) in
       record {
         refused-is = λ _. x ∙ rw e;
         passed-is = λ z. absurd (never z);
@@ -39,41 +39,41 @@ module _ (string : List ℕ) (size : ℕ) (r : Opening) where
         string-is = λ z. absurd (never z);
       }
 
-  pub opens-empty : length string ≡ 0 → r ≡ record { refusal = 9; cipher = Hc128; position = 0; next = 0 } → OpeningIs string size r
+  pub begins-empty : length string ≡ 0 → r ≡ record { refusal = 9; cipher = Hc128; position = 0; next = 0 } → BeginningIs string size r
   unfolding loadCheck
-  opens-empty l e = refuses 9 (λ z. omega arith) e (rw (no-byte string l))
+  begins-empty l e = refuses 9 (λ z. omega arith) e (rw (no-byte string l))
 
   module _ (some-bytes : length string ≡ 0 → ⊥) where
-    pub opens-unknown : byCode (getD string 0 0) ≡ none → r ≡ record { refusal = 1; cipher = Hc128; position = 0; next = 0 }
-        → OpeningIs string size r
+    pub begins-unknown : byCode (getD string 0 0) ≡ none → r ≡ record { refusal = 1; cipher = Hc128; position = 0; next = 0 }
+        → BeginningIs string size r
     unfolding loadCheck
-    opens-unknown k e = refuses 1 (λ z. omega arith) e (rw (first-byte string some-bytes, k))
+    begins-unknown k e = refuses 1 (λ z. omega arith) e (rw (first-byte string some-bytes, k))
 
     module _ (c : Cipher) (k : byCode (getD string 0 0) ≡ some c) where
-      pub opens-other-size : (size ≡ areaLength c → ⊥) → r ≡ record { refusal = 4; cipher = Hc128; position = 0; next = 0 }
-          → OpeningIs string size r
+      pub begins-other-size : (size ≡ areaLength c → ⊥) → r ≡ record { refusal = 4; cipher = Hc128; position = 0; next = 0 }
+          → BeginningIs string size r
       unfolding loadCheck
-      opens-other-size s e = refuses 4 (λ z. omega arith) e (rw (first-byte string some-bytes, k, ne-eqb size (areaLength c) s))
+      begins-other-size s e = refuses 4 (λ z. omega arith) e (rw (first-byte string some-bytes, k, ne-eqb size (areaLength c) s))
 
       module _ (s : size ≡ areaLength c) where
-        pub opens-no-position : (n : ℕ) → (n ≡ 0 → ⊥) → placed (readNumber mostGroups (drop 1 string)) ≡ refused n
-            → r ≡ record { refusal = n; cipher = Hc128; position = 0; next = 0 } → OpeningIs string size r
+        pub begins-no-position : (n : ℕ) → (n ≡ 0 → ⊥) → positionRead (readNumber mostGroups (drop 1 string)) ≡ refused n
+            → r ≡ record { refusal = n; cipher = Hc128; position = 0; next = 0 } → BeginningIs string size r
         unfolding loadCheck
-        opens-no-position n h p e = refuses n h e (rw (first-byte string some-bytes, k, eq-eqb size (areaLength c) s, p))
+        begins-no-position n h p e = refuses n h e (rw (first-byte string some-bytes, k, eq-eqb size (areaLength c) s, p))
 
         module _ (position next : ℕ)
-            (p : placed (readNumber mostGroups (drop 1 string)) ≡ accepted (record { position = position; rest = drop next string })) where
-          pub opens-past-limit : limit < position → r ≡ record { refusal = 5; cipher = Hc128; position = 0; next = 0 } → OpeningIs string size r
+            (p : positionRead (readNumber mostGroups (drop 1 string)) ≡ accepted (record { position = position; rest = drop next string })) where
+          pub begins-past-limit : limit < position → r ≡ record { refusal = 5; cipher = Hc128; position = 0; next = 0 } → BeginningIs string size r
           unfolding loadCheck
-          opens-past-limit l e =
+          begins-past-limit l e =
               refuses 5 (λ z. omega arith) e
               (rw (first-byte string some-bytes, k, eq-eqb size (areaLength c) s, p, lt-leb position limit l))
 
           module _ (l : position ≤ limit) where
-            pub opens-other-length : (n : ℕ) → n ≡ areaLength c → (length string - next ≡ 4 * n → ⊥)
-                → r ≡ record { refusal = 11; cipher = Hc128; position = 0; next = 0 } → OpeningIs string size r
+            pub begins-other-length : (n : ℕ) → n ≡ areaLength c → (length string - next ≡ 4 * n → ⊥)
+                → r ≡ record { refusal = 11; cipher = Hc128; position = 0; next = 0 } → BeginningIs string size r
             unfolding loadCheck
-            opens-other-length n q w e =
+            begins-other-length n q w e =
                 refuses 11 (λ z. omega arith) e
                 (rw (
                   first-byte string some-bytes,
@@ -84,10 +84,10 @@ module _ (string : List ℕ) (size : ℕ) (r : Opening) where
                   ne-eqb (length (drop next string)) (4 * areaLength c) (λ z. w (sym (length-drop next string) ∙ z ∙ ap (λ (x : ℕ). 4 * x) (sym q))),
                 ))
 
-            pub opens : (n : ℕ) → n ≡ areaLength c → length string - next ≡ 4 * n → next ≤ length string
-                → r ≡ record { refusal = 0; cipher = c; position = position; next = next } → OpeningIs string size r
+            pub begins : (n : ℕ) → n ≡ areaLength c → length string - next ≡ 4 * n → next ≤ length string
+                → r ≡ record { refusal = 0; cipher = c; position = position; next = next } → BeginningIs string size r
             unfolding loadCheck
-            opens n q w i e =
+            begins n q w i e =
                 let left : length (drop next string) ≡ 4 * areaLength c = length-drop next string ∙ w ∙ ap (λ (x : ℕ). 4 * x) q in
                 rw e
                 (record {

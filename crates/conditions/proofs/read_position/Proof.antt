@@ -6,8 +6,8 @@ use denote.Ref.{now}
 use lib.ListN.{drop}
 use Rattle.varint.specs.Number.{is, ended, malformed, readNumber}
 use Rattle.varint.specs.Place.{placeIs}
-use Rattle.engine.proofs.read_position.Statement.{statement}
-use Rattle.engine.proofs.read_position.Tie as tie
+use Rattle.conditions.proofs.read_position.Statement.{statement}
+use Rattle.conditions.proofs.read_position.Tie as tie
 
 returns : tie.Need-returns
 returns c =

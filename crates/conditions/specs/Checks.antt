@@ -1,4 +1,4 @@
--- What the structs that the code passes between the conditions of a call mean. Only contracts of private functions and of the reader cite it.
+-- What the structs that the code passes between the conditions of a call mean. Only contracts below the calls cite it.
 use mathlib.Core.Path.{_≡_}
 use mathlib.Core.Bool.{cond}
 use mathlib.Core.List.{List}
@@ -8,27 +8,27 @@ use lib.IntN.{ℤ, pos, negsuc}
 use lib.ListN.{length, drop}
 use Rattle.cipher.specs.declared.Cipher.{Cipher}
 use Rattle.cipher.specs.Numbers.{areaLength, keyLength, ivLength}
-use Rattle.engine.specs.declared.Checked.{Checked}
-use Rattle.engine.specs.declared.Place.{Place}
-use Rattle.engine.specs.declared.Opening.{Opening}
-use Rattle.engine.specs.declared.End.{End}
-use Rattle.engine.specs.declared.Distance.{Distance}
-use Rattle.engine.specs.declared.Distance.the-variants.{Forward, Back}
-use Rattle.engine.specs.Result.{Result, refused, accepted}
-use Rattle.engine.specs.Head.{limit}
-use Rattle.engine.specs.Conditions as Conditions
-use Rattle.engine.specs.Conditions.{loadCheck, loadFound}
+use Rattle.conditions.specs.declared.Checked.{Checked}
+use Rattle.conditions.specs.declared.Place.{Place}
+use Rattle.conditions.specs.declared.Beginning.{Beginning}
+use Rattle.conditions.specs.declared.End.{End}
+use Rattle.conditions.specs.declared.Distance.{Distance}
+use Rattle.conditions.specs.declared.Distance.the-variants.{Forward, Back}
+use Rattle.conditions.specs.Result.{Result, refused, accepted}
+use Rattle.conditions.specs.Limit.{limit}
+use Rattle.conditions.specs.Conditions as Conditions
+use Rattle.conditions.specs.Conditions.{loadCheck, loadFound}
 
 -- a refusal number and a value, where 0 means accepted
-abbrev pub outcome : {A : Type 0} → ℕ → A → Result A
-outcome n a = cond (eqb n 0) (accepted a) (refused n)
+abbrev pub resultOf : {A : Type 0} → ℕ → A → Result A
+resultOf n a = cond (eqb n 0) (accepted a) (refused n)
 
--- the outcome of a call's conditions, and the end of a move
+-- the result of a call's conditions, and the end of a move
 abbrev pub checkedIs : Checked → Result Cipher
-checkedIs r = outcome (r .refusal) (r .cipher)
+checkedIs r = resultOf (r .refusal) (r .cipher)
 
 abbrev pub endIs : End → Result ℕ
-endIs r = outcome (r .refusal) (r .position)
+endIs r = resultOf (r .refusal) (r .position)
 
 -- a signed distance as the enum of the code
 abbrev pub distanceIs : ℤ → Distance
@@ -46,10 +46,10 @@ pub record Ready (r : Checked) (position size : ℕ) : Type 0 where
   pub within : r .refusal ≡ 0 → position ≤ limit
 
 -- the position of a checkpoint, and load's conditions up to 11
-abbrev pub placeIs : List ℕ → Place → Result Conditions.Place
-placeIs string r = outcome (r .refusal) (record { position = r .position; rest = drop (r .next) string })
+abbrev pub positionIs : List ℕ → Place → Result Conditions.PositionRead
+positionIs string r = resultOf (r .refusal) (record { position = r .position; rest = drop (r .next) string })
 
-pub record OpeningIs (string : List ℕ) (size : ℕ) (r : Opening) : Type 0 where
+pub record BeginningIs (string : List ℕ) (size : ℕ) (r : Beginning) : Type 0 where
   pub refused-is : (r .refusal ≡ 0 → ⊥) → loadCheck string size ≡ refused (r .refusal)
   pub passed-is : r .refusal ≡ 0 → loadCheck string size ≡ loadFound (r .cipher) (r .position) (drop (r .next) string)
   pub area-is : r .refusal ≡ 0 → size ≡ areaLength (r .cipher)

@@ -1,4 +1,4 @@
--- `open_check` meets its contract: its tests are the conditions of load up to 11, in their order. Assumes nothing.
+-- `load_check` meets its contract: its tests are the conditions of load up to 11, in their order. Assumes nothing.
 use mathlib.Core.Path.{_≡_, refl, sym, ap, _∙_}
 use mathlib.Core.Option.{none, some}
 use borrow.Author.Needs.{needs}
@@ -6,46 +6,46 @@ use denote.Ref.{now}
 use lib.ListN.{getD}
 use Rattle.cipher.specs.Answers.{cipherIs}
 use Rattle.cipher.specs.Numbers.{byCode}
-use Rattle.engine.proofs.Checks.{is-refused, is-accepted}
-use Rattle.engine.proofs.Openings.{opens-empty, opens-unknown, opens-other-size, opens-no-position, opens-past-limit, opens-other-length, opens}
-use Rattle.engine.proofs.open_check.Statement.{statement}
-use Rattle.engine.proofs.open_check.Tie as tie
+use Rattle.conditions.proofs.Checks.{is-refused, is-accepted}
+use Rattle.conditions.proofs.Beginnings.{begins-empty, begins-unknown, begins-other-size, begins-no-position, begins-past-limit, begins-other-length, begins}
+use Rattle.conditions.proofs.load_check.Statement.{statement}
+use Rattle.conditions.proofs.load_check.Tie as tie
 
 -- what is known once the area's size is right: the cipher of the first byte, and the size
 code : (c : tie.After-area-words) → byCode (getD (now (c .before .before .before .before .before .before .before .before .args .string)) 0 0) ≡ some (c .before .before .known .given .0 .0)
 code c = sym (c .before .before .before .before .by-code .ensures) ∙ ap cipherIs (c .before .before .known .given .1)
 
 returns : tie.Need-returns
-returns c = opens-empty _ _ _ (c .before .if1 .taken) (c .closed .ensures)
+returns c = begins-empty _ _ _ (c .before .if1 .taken) (c .no-beginning .ensures)
 
 returns-2 : tie.Need-returns-2
 returns-2 c =
     let s = c .before .before .before .before .before .before .before .args in
     let unknown : byCode (getD (now (s .string)) 0 0) ≡ none = sym (c .before .before .before .by-code .ensures) ∙ ap cipherIs (c .before .enum-told .given .1) in
-    opens-unknown _ _ _ (c .before .before .before .before .before .if1 .left) unknown (c .closed2 .ensures)
+    begins-unknown _ _ _ (c .before .before .before .before .before .if1 .left) unknown (c .no-beginning2 .ensures)
 
 returns-3 : tie.Need-returns-3
 returns-3 c =
     let words = c .before .before in
-    opens-other-size _ _ _ (words .before .before .before .before .before .before .if1 .left) _ (code words)
-    (λ e. c .before .if2 .taken (e ∙ sym (words .area-words .ensures .0))) (c .closed3 .ensures)
+    begins-other-size _ _ _ (words .before .before .before .before .before .before .if1 .left) _ (code words)
+    (λ e. c .before .if2 .taken (e ∙ sym (words .area-words .ensures .0))) (c .no-beginning3 .ensures)
 
 returns-4 : tie.Need-returns-4
 returns-4 c =
     let sized = c .before .before .before in
     let words = sized .before in
-    opens-no-position _ _ _ (words .before .before .before .before .before .before .if1 .left) _ (code words)
+    begins-no-position _ _ _ (words .before .before .before .before .before .before .if1 .left) _ (code words)
     (sized .if2 .left ∙ words .area-words .ensures .0) _ (c .before .if3 .taken)
-    (is-refused _ _ _ (c .before .before .read-position .ensures .0) (c .before .if3 .taken)) (c .closed4 .ensures)
+    (is-refused _ _ _ (c .before .before .read-position .ensures .0) (c .before .if3 .taken)) (c .no-beginning4 .ensures)
 
 returns-5 : tie.Need-returns-5
 returns-5 c =
     let placed = c .before .before in
     let sized = placed .before .before in
     let words = sized .before in
-    opens-past-limit _ _ _ (words .before .before .before .before .before .before .if1 .left) _ (code words)
+    begins-past-limit _ _ _ (words .before .before .before .before .before .before .if1 .left) _ (code words)
     (sized .if2 .left ∙ words .area-words .ensures .0) _ (placed .before .read-position .result .next)
-    (is-accepted _ _ _ (placed .before .read-position .ensures .0) (placed .if3 .left)) (c .before .if4 .taken) (c .closed5 .ensures)
+    (is-accepted _ _ _ (placed .before .read-position .ensures .0) (placed .if3 .left)) (c .before .if4 .taken) (c .no-beginning5 .ensures)
 
 returns-6 : tie.Need-returns-6
 returns-6 c =
@@ -53,9 +53,9 @@ returns-6 c =
     let sized = placed .before .before in
     let words = sized .before in
     let n = words .area-words .ensures .0 in
-    opens-other-length _ _ _ (words .before .before .before .before .before .before .if1 .left) _ (code words) (sized .if2 .left ∙ n)
+    begins-other-length _ _ _ (words .before .before .before .before .before .before .if1 .left) _ (code words) (sized .if2 .left ∙ n)
     _ (placed .before .read-position .result .next) (is-accepted _ _ _ (placed .before .read-position .ensures .0) (placed .if3 .left))
-    (c .before .before .if4 .left) _ n (c .before .if5 .taken) (c .closed6 .ensures)
+    (c .before .before .if4 .left) _ n (c .before .if5 .taken) (c .no-beginning6 .ensures)
 
 returns-7 : tie.Need-returns-7
 returns-7 c =
@@ -63,12 +63,12 @@ returns-7 c =
     let sized = placed .before .before in
     let words = sized .before in
     let n = words .area-words .ensures .0 in
-    opens _ _ _ (words .before .before .before .before .before .before .if1 .left) _ (code words) (sized .if2 .left ∙ n)
+    begins _ _ _ (words .before .before .before .before .before .before .if1 .left) _ (code words) (sized .if2 .left ∙ n)
     _ (placed .before .read-position .result .next) (is-accepted _ _ _ (placed .before .read-position .ensures .0) (placed .if3 .left))
     (c .before .if4 .left) _ n (c .if5 .left) (placed .before .read-position .ensures .1) refl
 
-pub open-check-spec : {M : Type 1} → statement M
-open-check-spec =
+pub load-check-spec : {M : Type 1} → statement M
+load-check-spec =
     let a₁ = tie.spec (λ c κs. search needs) returns (λ c. search needs) (λ c κs. search needs) in
     let a₂ = a₁ (λ c. search needs) (λ c. search needs) (λ c κs. search needs) returns-2 (λ c κs. search needs) in
     let a₃ = a₂ (λ c κs. search needs) returns-3 (λ c κs. search needs) (λ c κs. search needs) returns-4 in

@@ -4,12 +4,12 @@ use Prim.Native.Nat.{ℕ, suc, _+_, _-_, _≤_, _<_}
 use native.Mathlib.Omega.{arith}
 use borrow.Author.Tests.{ne-eqb, le-leb, lt-leb, lt-ltb, le-ltb}
 use lib.IntN.{ℤ, pos, negsuc}
-use Rattle.engine.specs.declared.End.{End}
-use Rattle.engine.specs.declared.Distance.the-variants.{Forward, Back}
-use Rattle.engine.specs.Result.{refused, accepted}
-use Rattle.engine.specs.Head.{limit}
-use Rattle.engine.specs.Conditions.{endOf}
-use Rattle.engine.specs.Checks.{endIs, distanceIs}
+use Rattle.conditions.specs.declared.End.{End}
+use Rattle.conditions.specs.declared.Distance.the-variants.{Forward, Back}
+use Rattle.conditions.specs.Result.{refused, accepted}
+use Rattle.conditions.specs.Limit.{limit}
+use Rattle.conditions.specs.Conditions.{endOf}
+use Rattle.conditions.specs.Checks.{endIs, distanceIs}
 
 pub forward-is : (d : ℤ) (n : ℕ) → distanceIs d ≡ Forward n → d ≡ pos n
 forward-is (pos m) n e = ap pos (cc)

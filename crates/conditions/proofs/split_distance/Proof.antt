@@ -10,10 +10,10 @@ use mir.ValLaws.{toZ-ofZ}
 use lib.IntN.{ℤ, pos, negsuc, natAbs, _-ℤ_}
 use lib.Dec.{T}
 use lib.Signed.{ltZ, mag, nonNeg}
-use Rattle.engine.specs.declared.Distance.the-variants.{Forward, Back}
-use Rattle.engine.specs.Checks.{distanceIs}
-use Rattle.engine.proofs.split_distance.Statement.{statement}
-use Rattle.engine.proofs.split_distance.Tie as tie
+use Rattle.conditions.specs.declared.Distance.the-variants.{Forward, Back}
+use Rattle.conditions.specs.Checks.{distanceIs}
+use Rattle.conditions.proofs.split_distance.Statement.{statement}
+use Rattle.conditions.proofs.split_distance.Tie as tie
 
 -- a distance below 0 is `negsuc (mag d)`
 below : (d : ℤ) → ltZ d (pos 0) ≡ true → (negsuc 0 -ℤ d ≡ pos (mag d)) × (Back (mag d) ≡ distanceIs d)

@@ -1,0 +1,4 @@
+pub mod Result
+pub mod Limit
+pub mod Conditions
+pub mod Checks

@@ -1,0 +1,231 @@
+// The conditions of the calls, in document 01's order: the refusal number of the first that fails, or what the call then works with. They read
+// codes, positions, sizes and strings; nothing is changed.
+ghost use mathlib.Core.Path.{_≡_};
+ghost use Prim.Native.Nat.{_≤_};
+ghost use lib.ListN.{length, drop};
+ghost use Rattle.varint.specs.Number.{readNumber};
+ghost use Rattle.checkpoint.specs.Checkpoint as Checkpoint;
+ghost use Rattle.conditions.specs.Limit.{limit};
+ghost use Rattle.conditions.specs.Conditions as Conditions;
+ghost use Rattle.conditions.specs.Checks as Checks;
+use cipher::Cipher;
+use cipher::Known;
+use varint::Read;
+
+// The stream limit in bytes.
+pub const LIMIT: u64 = 67_108_864;
+
+// The outcome of a call's conditions: the refusal number, 0 where they hold, and then the cipher.
+pub struct Checked {
+    pub refusal: u8,
+    pub cipher: Cipher,
+}
+
+fn passed(cipher: Cipher) -> Checked
+    ensures { λ r. ⌜ r ≡ record { refusal = 0; cipher = cipher } ⌝ }
+{
+    Checked {
+        refusal: 0,
+        cipher: cipher,
+    }
+}
+
+fn refused(refusal: u8) -> Checked
+    ensures { λ r. ⌜ r ≡ record { refusal = refusal; cipher = Cipher.Hc128 } ⌝ }
+{
+    Checked {
+        refusal: refusal,
+        cipher: Cipher::Hc128,
+    }
+}
+
+// The conditions of set up.
+pub fn set_up_check(code: u8, key: usize, iv: usize, size: usize) -> Checked
+    ensures { λ r. ⌜ (Checks.checkedIs r ≡ Conditions.setUpCheck code key iv size) × Checks.Sized r key iv size ⌝ }
+{
+    let known = cipher::by_code(code);
+    let Known::Is(c) = known else {
+        return refused(1);
+    };
+    if key != cipher::key_bytes(c) {
+        return refused(2);
+    }
+    if iv != cipher::iv_bytes(c) {
+        return refused(3);
+    }
+    if size != cipher::area_words(c) {
+        return refused(4);
+    }
+    passed(c)
+}
+
+// The conditions 1, 4 and 5, which cipher, move, write and recover begin with.
+pub fn ready(code: u8, position: u64, size: usize) -> Checked
+    ensures { λ r. ⌜ (Checks.checkedIs r ≡ Conditions.ready code position size) × Checks.Ready r position size ⌝ }
+{
+    let known = cipher::by_code(code);
+    let Known::Is(c) = known else {
+        return refused(1);
+    };
+    if size != cipher::area_words(c) {
+        return refused(4);
+    }
+    if LIMIT < position {
+        return refused(5);
+    }
+    passed(c)
+}
+
+// A signed distance: n bytes on, or n + 1 bytes back.
+pub enum Distance {
+    Forward(u64),
+    Back(u64),
+}
+
+fn split_distance(distance: i64) -> Distance
+    ensures { λ r. ⌜ r ≡ Checks.distanceIs distance ⌝ }
+{
+    if distance < 0 {
+        Distance::Back((-1 - distance) as u64)
+    } else {
+        Distance::Forward(distance as u64)
+    }
+}
+
+// The end of a move: the refusal number, 0 where there is none, and then the position.
+pub struct End {
+    pub refusal: u8,
+    pub position: u64,
+}
+
+fn end_at(position: u64) -> End
+    ensures { λ r. ⌜ r ≡ record { refusal = 0; position = position } ⌝ }
+{
+    End {
+        refusal: 0,
+        position: position,
+    }
+}
+
+fn no_end(refusal: u8) -> End
+    ensures { λ r. ⌜ r ≡ record { refusal = refusal; position = 0 } ⌝ }
+{
+    End {
+        refusal: refusal,
+        position: 0,
+    }
+}
+
+// Where a move by a distance ends, from a position within the limit.
+pub fn end_of(position: u64, distance: i64) -> End
+    requires { ⌜ position ≤ limit ⌝ }
+    ensures { λ r. ⌜ (Checks.endIs r ≡ Conditions.endOf position distance) × (r .position ≤ limit) ⌝ }
+{
+    let d = split_distance(distance);
+    match d {
+        Distance::Forward(n) => {
+            if n <= LIMIT - position {
+                end_at(position + n)
+            } else {
+                no_end(6)
+            }
+        }
+        Distance::Back(n) => {
+            if position <= n {
+                no_end(7)
+            } else {
+                end_at(position - n - 1)
+            }
+        }
+    }
+}
+
+// The position of a checkpoint: the refusal number, 0 where there is none, and then the position and the place after it.
+pub struct Place {
+    pub refusal: u8,
+    pub position: u64,
+    pub next: usize,
+}
+
+fn no_place(refusal: u8) -> Place
+    ensures { λ r. ⌜ r ≡ record { refusal = refusal; position = 0; next = 0 } ⌝ }
+{
+    Place {
+        refusal: refusal,
+        position: 0,
+        next: 0,
+    }
+}
+
+// Reads the position that follows the first byte.
+fn read_position(string: &[u8]) -> Place
+    requires { ⌜ 1 ≤ length (now string) ⌝ }
+    ensures { λ r. ⌜ (Checks.positionIs (now (string .entry)) r ≡ Conditions.positionRead (readNumber Checkpoint.mostGroups (drop 1 (now (string .entry))))) × (r .next ≤ length (now (string .entry))) ⌝ }
+{
+    let read = varint::read_number(string, 1, 4);
+    match read {
+        Read::Number { value, next } => Place {
+            refusal: 0,
+            position: value,
+            next: next,
+        },
+        Read::Ended => no_place(9),
+        Read::Malformed => no_place(10),
+    }
+}
+
+// What a checkpoint begins with, once every condition of load but the last holds: its cipher and position, and where its words begin.
+pub struct Beginning {
+    pub refusal: u8,
+    pub cipher: Cipher,
+    pub position: u64,
+    pub next: usize,
+}
+
+fn no_beginning(refusal: u8) -> Beginning
+    ensures { λ r. ⌜ r ≡ record { refusal = refusal; cipher = Cipher.Hc128; position = 0; next = 0 } ⌝ }
+{
+    Beginning {
+        refusal: refusal,
+        cipher: Cipher::Hc128,
+        position: 0,
+        next: 0,
+    }
+}
+
+// The conditions of load up to 11.
+pub fn load_check(string: &[u8], size: usize) -> Beginning
+    ensures { λ r. ⌜ Checks.BeginningIs (now (string .entry)) size r ⌝ }
+{
+    if string.len() == 0 {
+        return no_beginning(9);
+    }
+    let known = cipher::by_code(string[0]);
+    let Known::Is(c) = known else {
+        return no_beginning(1);
+    };
+    let n = cipher::area_words(c);
+    if size != n {
+        return no_beginning(4);
+    }
+    let place = read_position(string);
+    let refusal = place.refusal;
+    if refusal != 0 {
+        return no_beginning(refusal);
+    }
+    let position = place.position;
+    if LIMIT < position {
+        return no_beginning(5);
+    }
+    let next = place.next;
+    if string.len() - next != 4 * n {
+        return no_beginning(11);
+    }
+    Beginning {
+        refusal: 0,
+        cipher: c,
+        position: position,
+        next: next,
+    }
+}
+
