@@ -11,10 +11,10 @@ use Rattle.cipher.specs.Numbers.{byCode, areaLength}
 use Rattle.checkpoint.specs.Checkpoint.{mostGroups}
 use Rattle.setup.specs.SetUp.{Undone, none, found}
 use Rattle.engine.specs.declared.Head.{Head}
-use Rattle.engine.specs.declared.Done.{Done}
-use Rattle.conditions.specs.Result.{Result, refused, accepted, Outcome, left}
+use Rattle.engine.specs.declared.answers.Done.{Done}
+use Rattle.conditions.specs.Result.{Result, refused, accepted, Outcome, outcome}
 use Rattle.conditions.specs.Limit.{limit}
-use Rattle.conditions.specs.Conditions.{ready, cipherCheck, undoAt, foundOr12, placed, loadCheck}
+use Rattle.conditions.specs.Conditions.{ready, cipherCheck, undoAt, foundOr12, positionRead, loadCheck}
 use Rattle.engine.specs.Calls.{Ciphered, cipher, cipherCall}
 use Rattle.engine.specs.Answers as Answers
 use Rattle.theorems.proofs.Results.{no-refusal, accepted-one, after-line, after-without, after-unless}
@@ -47,10 +47,10 @@ found-not-0 : (u : Undone) → foundOr12 u ≡ refused 0 → ⊥
 found-not-0 none e = other 12 0 (λ z. omega arith) e
 found-not-0 (found k v) e = no-refusal e
 
-placed-not-0 : (f : Found) → placed f ≡ refused 0 → ⊥
-placed-not-0 (is n rest) e = no-refusal e
-placed-not-0 ended e = other 9 0 (λ z. omega arith) e
-placed-not-0 malformed e = other 10 0 (λ z. omega arith) e
+position-not-0 : (f : Found) → positionRead f ≡ refused 0 → ⊥
+position-not-0 (is n rest) e = no-refusal e
+position-not-0 ended e = other 9 0 (λ z. omega arith) e
+position-not-0 malformed e = other 10 0 (λ z. omega arith) e
 
 pub load-not-0 : (string : List ℕ) (size : ℕ) → loadCheck string size ≡ refused 0 → ⊥
 unfolding loadCheck
@@ -59,7 +59,7 @@ load-not-0 (b ∷ tail) size e =
     let read = readNumber mostGroups tail in
     after-without 1 (byCode b) _ e (other 0 1 (λ z. omega arith)) λ c e₁ r₁.
     after-unless 4 (eqb size (areaLength c)) _ r₁ (other 0 4 (λ z. omega arith)) λ e₂ r₂.
-    after-line (placed read) _ r₂ (λ n q s. placed-not-0 read (s ∙ ap refused (number-of q))) λ place e₃ r₃.
+    after-line (positionRead read) _ r₂ (λ n q s. position-not-0 read (s ∙ ap refused (number-of q))) λ place e₃ r₃.
     after-unless 5 (leb (place .position) limit) _ r₃ (other 0 5 (λ z. omega arith)) λ e₄ r₄.
     after-unless 11 (eqb (length (place .rest)) (4 * areaLength c)) _ r₄ (other 0 11 (λ z. omega arith)) λ e₅ r₅.
     let u = undoAt c (words (place .rest)) (place .position) in
@@ -68,8 +68,8 @@ load-not-0 (b ∷ tail) size e =
 
 -- an accepted cipher call advances by the number of its bytes, within the limit
 module _ (h : Head) (area bytes : List ℕ) where
-  ends : (x : Result Ciphered) → cipher h area bytes ≡ x → (old : Ciphered) → left old x .refusal ≡ 0
-      → (left old x .value .engine .head .position ≡ h .position + length bytes) × (h .position + length bytes ≤ limit)
+  ends : (x : Result Ciphered) → cipher h area bytes ≡ x → (old : Ciphered) → outcome old x .refusal ≡ 0
+      → (outcome old x .value .engine .head .position ≡ h .position + length bytes) × (h .position + length bytes ≤ limit)
   unfolding cipher
   ends (refused n) e old z =
       absurd (after-line (cipherCheck (h .code) (h .position) (length area) (length bytes)) _ e
@@ -80,7 +80,7 @@ module _ (h : Head) (area bytes : List ℕ) where
         cipher-shows (h .code) (h .position) (length area) (length bytes) c e₁ .1,
       )
 
-  pub advances : (r : Done) (s bs : List ℕ) → Answers.ciphered r s bs ≡ cipherCall h area bytes → Advance (h .position) (length bytes) r
+  pub advances : (r : Done) (s bs : List ℕ) → Answers.ciphered (r .refusal) (r .head) s bs ≡ cipherCall h area bytes → Advance (h .position) (length bytes) r
   unfolding cipherCall
   advances r s bs e =
       let refusal = ap (λ (l : Outcome Ciphered). l .refusal) e in

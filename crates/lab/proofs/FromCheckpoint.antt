@@ -39,7 +39,7 @@ use Rattle.theorems.proofs.Results.{no-refusal, accepted-one, after-line}
 use Rattle.theorems.proofs.Conditions.{accepted-only, load-passed, move-accepted, recover-finds}
 use Rattle.theorems.proofs.Checkpoints.{loadedOf, load-checkpoint}
 use Rattle.theorems.proofs.Tables.{moved-area, four-sized, four-moved, undo-finds}
-use Rattle.lab.specs.Tasks.{cipherOf, loaded, moveTo, movedTo, opened, startedAt, thenWrite, writtenAt, rewrittenAt, recoveredFrom}
+use Rattle.lab.specs.Tasks.{cipherOf, loadFresh, moveTo, loadAndMove, openCheckpoint, setUpAt, thenWrite, writeAt, rewriteAt, recoverFrom}
 use Rattle.lab.specs.FromCheckpoint.{cipherAfter, streamed, atPosition, checkpointPut, FromCheckpoint}
 use Rattle.lab.proofs.Advance.{load-not-0}
 use Rattle.lab.proofs.Tasks.{ends-at}
@@ -47,17 +47,17 @@ use Rattle.lab.proofs.Tasks.{ends-at}
 -- ── load ──
 
 -- what an accepted load leaves
-engineOf : Contents → Engine
-engineOf l = record { head = headAt (codeOf (l .cipher)) (l .position); area = l .area }
+engineIn : Contents → Engine
+engineIn l = record { head = headAt (codeOf (l .cipher)) (l .position); area = l .area }
 
 loaded-accepted : (string area : List ℕ) (l : Contents) → loadCheck string (length area) ≡ accepted l
-    → loaded string area ≡ record { refusal = 0; value = engineOf l }
-unfolding loaded loadCall load engineOf
+    → loadFresh string area ≡ record { refusal = 0; value = engineIn l }
+unfolding loadFresh loadCall load engineIn
 loaded-accepted string area l e = rw e
 
 loaded-refused : (string area : List ℕ) (n : ℕ) → loadCheck string (length area) ≡ refused n
-    → loaded string area ≡ record { refusal = n; value = record { head = freshHead; area = area } }
-unfolding loaded loadCall load
+    → loadFresh string area ≡ record { refusal = n; value = record { head = freshHead; area = area } }
+unfolding loadFresh loadCall load
 loaded-refused string area n e = rw e
 
 -- an accepted load has filled an area of the cipher's size, at a position within the limit
@@ -80,9 +80,9 @@ unfolding moveCall move
 moved-back c p s z l = rw (move-accepted c p (length s) (negℤ (pos p)) 0 z l (+ℤ-invr (pos p)) (omega arith))
 
 opened-accepted : (string area : List ℕ) (l : Contents) → loadCheck string (length area) ≡ accepted l
-    → opened string area
+    → openCheckpoint string area
     ≡ record { refusal = 0; value = record { head = headAt (codeOf (l .cipher)) 0; area = moved (l .cipher) (l .area) (l .position) 0 } }
-unfolding opened engineOf
+unfolding openCheckpoint engineIn
 opened-accepted string area l e =
     let h = load-leaves string (length area) l e in
     rw (loaded-accepted string area l e) (moved-back (l .cipher) (l .position) (l .area) (h .0) (h .1))
@@ -91,12 +91,12 @@ not-0 : (string : List ℕ) (size n : ℕ) → loadCheck string size ≡ refused
 not-0 string size n e z = load-not-0 string size (e ∙ ap refused z)
 
 opened-refused : (string area : List ℕ) (n : ℕ) → loadCheck string (length area) ≡ refused n
-    → opened string area ≡ record { refusal = n; value = record { head = freshHead; area = area } }
-unfolding opened
+    → openCheckpoint string area ≡ record { refusal = n; value = record { head = freshHead; area = area } }
+unfolding openCheckpoint
 opened-refused string area n e = rw (loaded-refused string area n e, ne-eqb n 0 (not-0 string (length area) n e))
 
 by-load : (string area : List ℕ) (x : Result Contents) → loadCheck string (length area) ≡ x
-    → opened string area .refusal ≡ loadCall freshHead string area .refusal
+    → openCheckpoint string area .refusal ≡ loadCall freshHead string area .refusal
 unfolding loadCall load
 by-load string area (refused n) e = ap (λ (l : Outcome Engine). l .refusal) (opened-refused string area n e) ∙ rw e
 by-load string area (accepted l) e = ap (λ (l : Outcome Engine). l .refusal) (opened-accepted string area l e) ∙ rw e
@@ -118,7 +118,7 @@ unfolding tablesOf forward
 at-0 c k v = refl
 
 opens : (string area : List ℕ) (f : Four) → Checkpoint string f → length area ≡ areaLength (f .cipher)
-    → opened string area
+    → openCheckpoint string area
     ≡ record { refusal = 0; value = record { head = headAt (codeOf (f .cipher)) 0; area = SetUp.setUp (f .cipher) (f .key) (f .iv) } }
 opens string area f h z =
     opened-accepted string area (loadedOf f) (load-checkpoint string (length area) f h z)
@@ -132,7 +132,7 @@ set-up-is c k v area pair z =
     rw (code-of c, eq-eqb (length k) (keyLength c) (pair .key-long), eq-eqb (length v) (ivLength c) (pair .iv-long), eq-eqb (length area) (areaLength c) z)
 
 as-set-up : (string area : List ℕ) (f : Four) → Checkpoint string f → length area ≡ areaLength (f .cipher)
-    → opened string area ≡ setUpCall freshHead (codeOf (f .cipher)) (f .key) (f .iv) area
+    → openCheckpoint string area ≡ setUpCall freshHead (codeOf (f .cipher)) (f .key) (f .iv) area
 as-set-up string area f h z =
     opens string area f h z ∙ sym (set-up-is (f .cipher) (f .key) (f .iv) area (h .is-four .pair) z)
 
@@ -156,7 +156,7 @@ twice h area bytes (accepted c) e =
 
 deciphers : (string area log : List ℕ) (f : Four) → Checkpoint string f → length area ≡ areaLength (f .cipher)
     → let enciphered = cipherAfter (setUpCall freshHead (codeOf (f .cipher)) (f .key) (f .iv) area) log .value .bytes in
-    cipherAfter (opened string area) enciphered .value .bytes ≡ log
+    cipherAfter (openCheckpoint string area) enciphered .value .bytes ≡ log
 deciphers string area log f h z =
     let e = setUpCall freshHead (codeOf (f .cipher)) (f .key) (f .iv) area .value in
     rw (as-set-up string area f h z) (twice (e .head) (e .area) log _ refl)
@@ -201,7 +201,7 @@ streamed-is c p s (part ∷ parts) area l =
 in-parts : (string area log : List ℕ) (parts : List (List ℕ)) (f : Four) → Checkpoint string f → length area ≡ areaLength (f .cipher)
     → length log ≤ limit
     → flatten parts ≡ cipherAfter (setUpCall freshHead (codeOf (f .cipher)) (f .key) (f .iv) area) log .value .bytes
-    → streamed (opened string area .value) parts ≡ log
+    → streamed (openCheckpoint string area .value) parts ≡ log
 in-parts string area log parts f h z l e =
     let c = f .cipher in
     let s = SetUp.setUp c (f .key) (f .iv) in
@@ -219,7 +219,7 @@ undo-four f h = undo-finds (f .cipher) (f .key) (f .iv) (f .position) (h .pair)
 
 recovers : (string area key iv : List ℕ) (f : Four) → Checkpoint string f → length area ≡ areaLength (f .cipher)
     → length key ≡ keyLength (f .cipher) → length iv ≡ ivLength (f .cipher)
-    → recoveredFrom string area key iv
+    → recoverFrom string area key iv
     ≡ record {
       refusal = 0;
       value = record {
@@ -228,7 +228,7 @@ recovers : (string area key iv : List ℕ) (f : Four) → Checkpoint string f �
         iv = f .iv;
       };
     }
-unfolding recoveredFrom recoverCall recover engineOf
+unfolding recoverFrom recoverCall recover engineIn
 recovers string area key iv f h z kn vn =
     let c = f .cipher in
     let sized = four-sized f (tablesOf f) (h .is-four) refl in
@@ -254,14 +254,7 @@ moved-four f q h l =
 
 write-four : (f : Four) (lent : List ℕ) → IsFour f → room (f .cipher) ≤ length lent
     → writeCall (headAt (codeOf (f .cipher)) (f .position)) (tablesOf f) lent
-    ≡ record {
-      refusal = 0;
-      value = record {
-        head = headAt (codeOf (f .cipher)) (f .position);
-        length = length (checkpointOf f);
-        lent = checkpointOf f ++ drop (length (checkpointOf f)) lent;
-      };
-    }
+    ≡ checkpointPut f lent
 unfolding writeCall write checkpointOf
 write-four f lent h l =
     let c = f .cipher in
@@ -274,8 +267,8 @@ then-write : (f : Four) (lent : List ℕ) → IsFour f → room (f .cipher) ≤ 
 then-write f lent h l = rw (write-four f lent h l)
 
 writes : (area lent : List ℕ) (f : Four) → IsFour f → length area ≡ areaLength (f .cipher) → room (f .cipher) ≤ length lent
-    → writtenAt (codeOf (f .cipher)) (f .key) (f .iv) area (f .position) lent ≡ checkpointPut f lent
-unfolding writtenAt startedAt
+    → writeAt (codeOf (f .cipher)) (f .key) (f .iv) area (f .position) lent ≡ checkpointPut f lent
+unfolding writeAt setUpAt
 writes area lent f h z l =
     let c = f .cipher in
     let start = moved-four (atPosition f 0) (f .position) (record { pair = h .pair; within = omega arith }) (h .within) in
@@ -283,8 +276,8 @@ writes area lent f h z l =
 
 rewrites : (string area lent : List ℕ) (f : Four) (position : ℕ) → Checkpoint string f → length area ≡ areaLength (f .cipher)
     → position ≤ limit → room (f .cipher) ≤ length lent
-    → rewrittenAt string area position lent ≡ checkpointPut (atPosition f position) lent
-unfolding rewrittenAt movedTo engineOf
+    → rewriteAt string area position lent ≡ checkpointPut (atPosition f position) lent
+unfolding rewriteAt loadAndMove engineIn
 rewrites string area lent f position h z w l =
     rw (loaded-accepted string area (loadedOf f) (load-checkpoint string (length area) f h z), moved-four f position (h .is-four) w)
     (then-write (atPosition f position) lent (record { pair = h .is-four .pair; within = w }) l)

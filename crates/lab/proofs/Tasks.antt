@@ -14,14 +14,14 @@ use lib.ListN.{length, length-append}
 use lib.Seq.{length-take-le}
 use Rattle.cipher.specs.declared.Cipher.{Cipher}
 use Rattle.engine.specs.declared.Head.{Head}
-use Rattle.engine.specs.declared.Done.{Done}
-use Rattle.engine.specs.declared.WriteAnswer.{WriteAnswer}
-use Rattle.engine.specs.declared.LoadAnswer.{LoadAnswer}
-use Rattle.conditions.specs.Result.{Result, refused, accepted, Outcome, left}
+use Rattle.engine.specs.declared.answers.Done.{Done}
+use Rattle.engine.specs.declared.answers.WriteDone.{WriteDone}
+use Rattle.engine.specs.declared.answers.LoadDone.{LoadDone}
+use Rattle.conditions.specs.Result.{Result, refused, accepted, Outcome, outcome}
 use Rattle.conditions.specs.Limit.{limit}
 use Rattle.engine.specs.Head.{freshHead}
 use Rattle.conditions.specs.Conditions.{ready, endOf}
-use Rattle.engine.specs.Calls.{Engine, setUpCall, moveCall, write, writeCall, recoverCall, loadCall}
+use Rattle.engine.specs.Calls.{Engine, engineOf, setUpCall, moveCall, write, writeCall, recoverCall, loadCall}
 use Rattle.engine.specs.Calls as Calls
 use Rattle.engine.specs.Answers as Answers
 use Rattle.checkpoint.specs.Checkpoint.{layout, room}
@@ -29,12 +29,12 @@ use Rattle.engine.proofs.Calls.{move-refused, move-unreached}
 use Rattle.theorems.proofs.Results.{no-refusal, accepted-one, after-line, after-unless}
 use Rattle.theorems.proofs.Conditions.{ready-shows}
 use Rattle.lab.specs.Tasks as Tasks
-use Rattle.lab.specs.Tasks.{loaded, moveTo, movedTo, opened, startedAt, thenWrite, recoveredFrom}
+use Rattle.lab.specs.Tasks.{loadFresh, moveTo, loadAndMove, openCheckpoint, setUpAt, thenWrite, recoverFrom}
 
 -- what the code's load from a fresh head leaves
-pub loaded-is : (h : Head) (string area s : List ℕ) (r : LoadAnswer) → h ≡ freshHead → Answers.opened r s ≡ loadCall h string area
-    → record { refusal = r .refusal; value = record { head = r .head; area = s } } ≡ loaded string area
-unfolding loaded
+pub loaded-is : (h : Head) (string area s : List ℕ) (r : LoadDone) → h ≡ freshHead → Answers.loaded (r .answer) (r .head) s ≡ loadCall h string area
+    → Answers.done (r .answer .refusal) (r .head) s ≡ loadFresh string area
+unfolding loadFresh
 loaded-is h string area s r f e = rw (← f, ← e)
 
 -- ── moves to a position ──
@@ -50,7 +50,7 @@ module _ (h : Head) (area : List ℕ) where
   over d e (accepted c) q l =
       let w = ready-shows (h .code) (h .position) (length area) c q .within-limit in absurd (omega arith)
 
-  pub from-over : (position : ℕ) (d : ℤ) → limit < h .position → moveCall h area d ≡ moveTo position (record { head = h; area = area })
+  pub from-over : (position : ℕ) (d : ℤ) → limit < h .position → moveCall h area d ≡ moveTo position (engineOf h area)
   unfolding moveTo
   from-over position d l = over d _ (ready (h .code) (h .position) (length area)) refl l
 
@@ -61,7 +61,7 @@ module _ (h : Head) (area : List ℕ) where
   past d e (accepted c) q x y = sym (move-unreached h area d c q 6 x) ∙ move-unreached h area e c q 6 y
 
   pub to-over : (position n : ℕ) → limit < position → limit < n
-      → moveCall h area (pos n) ≡ moveTo position (record { head = h; area = area })
+      → moveCall h area (pos n) ≡ moveTo position (engineOf h area)
   unfolding moveTo endOf
   to-over position n l m =
       let p = h .position in
@@ -70,7 +70,7 @@ module _ (h : Head) (area : List ℕ) where
       (rw (ends-at p position, lt-leb position limit l))
 
   pub by-distance : (position : ℕ) (d : ℤ) → d ≡ pos position -ℤ pos (h .position)
-      → moveCall h area d ≡ moveTo position (record { head = h; area = area })
+      → moveCall h area d ≡ moveTo position (engineOf h area)
   unfolding moveTo
   by-distance position d e = rw e
 
@@ -94,37 +94,37 @@ distance-is a b l m = toZ-ofZ w64 _ (distance-fits a b l m) ∙ rw (toZ-pos w64 
 pub back-to-0 : (p : ℕ) → pos 0 -ℤ pos p ≡ negℤ (pos p)
 back-to-0 p = +ℤ-idl (negℤ (pos p))
 
-pub opened-is : (string area : List ℕ) → movedTo string area 0 ≡ opened string area
-unfolding movedTo opened moveTo
+pub opened-is : (string area : List ℕ) → loadAndMove string area 0 ≡ openCheckpoint string area
+unfolding loadAndMove openCheckpoint moveTo
 opened-is string area = simp back-to-0
 
 -- ── calls on what a set up or a load left ──
 
 module _ (h : Head) (code : ℕ) (key iv area : List ℕ) (position : ℕ) (s : List ℕ) (r : Done) (f : h ≡ freshHead)
-    (e : Answers.done r s ≡ setUpCall h code key iv area) where
-  pub started-refused : (r .refusal ≡ 0 → ⊥) → Answers.done r s ≡ startedAt code key iv area position
-  unfolding startedAt
+    (e : Answers.done (r .refusal) (r .head) s ≡ setUpCall h code key iv area) where
+  pub started-refused : (r .refusal ≡ 0 → ⊥) → Answers.done (r .refusal) (r .head) s ≡ setUpAt code key iv area position
+  unfolding setUpAt
   started-refused z = rw (← f, ← e, ne-eqb (r .refusal) 0 z)
 
-  pub started-made : r .refusal ≡ 0 → (m : Outcome Engine) → m ≡ moveTo position (record { head = r .head; area = s })
-      → m ≡ startedAt code key iv area position
-  unfolding startedAt
+  pub started-made : r .refusal ≡ 0 → (m : Outcome Engine) → m ≡ moveTo position (engineOf (r .head) s)
+      → m ≡ setUpAt code key iv area position
+  unfolding setUpAt
   started-made z m q = rw (← f, ← e, eq-eqb (r .refusal) 0 z) q
 
-module _ (h : Head) (string area : List ℕ) (position : ℕ) (s : List ℕ) (l : LoadAnswer) (f : h ≡ freshHead)
-    (e : Answers.opened l s ≡ loadCall h string area) where
-  pub moved-refused : (l .refusal ≡ 0 → ⊥) → record { refusal = l .refusal; value = record { head = l .head; area = s } } ≡ movedTo string area position
-  unfolding movedTo
-  moved-refused z = rw (← loaded-is h string area s l f e, ne-eqb (l .refusal) 0 z)
+module _ (h : Head) (string area : List ℕ) (position : ℕ) (s : List ℕ) (l : LoadDone) (f : h ≡ freshHead)
+    (e : Answers.loaded (l .answer) (l .head) s ≡ loadCall h string area) where
+  pub moved-refused : (l .answer .refusal ≡ 0 → ⊥) → Answers.done (l .answer .refusal) (l .head) s ≡ loadAndMove string area position
+  unfolding loadAndMove
+  moved-refused z = rw (← loaded-is h string area s l f e, ne-eqb (l .answer .refusal) 0 z)
 
-  pub moved-made : l .refusal ≡ 0 → (m : Outcome Engine) → m ≡ moveTo position (record { head = l .head; area = s })
-      → m ≡ movedTo string area position
-  unfolding movedTo
-  moved-made z m q = rw (← loaded-is h string area s l f e, eq-eqb (l .refusal) 0 z) q
+  pub moved-made : l .answer .refusal ≡ 0 → (m : Outcome Engine) → m ≡ moveTo position (engineOf (l .head) s)
+      → m ≡ loadAndMove string area position
+  unfolding loadAndMove
+  moved-made z m q = rw (← loaded-is h string area s l f e, eq-eqb (l .answer .refusal) 0 z) q
 
 -- the lent bytes after a write are at least as many as the checkpoint's
 write-counts : (h : Head) (area lent : List ℕ) (x : Result Calls.Written) → write h area lent ≡ x
-    → let w = left (record { head = h; length = 0; lent = lent }) x .value in w .length ≤ length (w .lent)
+    → let w = outcome (record { engine = engineOf h area; length = 0; lent = lent }) x .value in w .length ≤ length (w .lent)
 unfolding write
 write-counts h area lent (refused n) e = omega arith
 write-counts h area lent (accepted w) e =
@@ -137,28 +137,30 @@ write-counts h area lent (accepted w) e =
 counts : (n : ℕ) (bytes : List ℕ) → n ≤ length bytes → Tasks.Counts n bytes
 counts n bytes l = (l, sym (length-take-le n bytes l))
 
-module _ (first : Outcome Engine) (lent : List ℕ) (r : Done) (s : List ℕ) (e : Answers.done r s ≡ first) where
-  pub written-refused : (r .refusal ≡ 0 → ⊥)
-      → (record { refusal = r .refusal; value = record { engine = record { head = r .head; area = s }; length = 0; lent = lent } } ≡ thenWrite first lent)
-      × Tasks.Counts 0 lent
-  written-refused h = (rw (← e, ne-eqb (r .refusal) 0 h), counts 0 lent (omega arith))
+module _ (first : Outcome Engine) (lent : List ℕ) (r : Done) (s : List ℕ) (e : Answers.done (r .refusal) (r .head) s ≡ first) where
+  pub written-refused : (r .refusal ≡ 0 → ⊥) → (w : WriteDone) → w ≡ record { answer = record { refusal = r .refusal; length = 0 }; head = r .head }
+      → (Answers.written (w .answer) (w .head) s lent ≡ thenWrite first lent) × Tasks.Counts (w .answer .length) lent
+  written-refused h w q = rw q (rw (← e, ne-eqb (r .refusal) 0 h), counts 0 lent (omega arith))
 
-  pub written-made : r .refusal ≡ 0 → (w : WriteAnswer) (lent′ : List ℕ) → Answers.written w lent′ ≡ writeCall (r .head) s lent
-      → (Tasks.written w s lent′ ≡ thenWrite first lent) × Tasks.Counts (w .length) lent′
+  pub written-made : r .refusal ≡ 0 → (w : WriteDone) (lent′ : List ℕ)
+      → Answers.written (w .answer) (w .head) s lent′ ≡ writeCall (r .head) s lent
+      → (Answers.written (w .answer) (w .head) s lent′ ≡ thenWrite first lent) × Tasks.Counts (w .answer .length) lent′
   unfolding writeCall
   written-made h w lent′ q = (
-    rw (← e, eq-eqb (r .refusal) 0 h, ← q),
-    counts (w .length) lent′ (rw (ap (λ (y : Outcome Calls.Written). y .value .length) q, ap (λ (y : Outcome Calls.Written). y .value .lent) q) (write-counts (r .head) s lent (write (r .head) s lent) refl)),
+    rw (← e, eq-eqb (r .refusal) 0 h) q,
+    counts (w .answer .length) lent′
+    (rw (ap (λ (y : Outcome Calls.Written). y .value .length) q, ap (λ (y : Outcome Calls.Written). y .value .lent) q)
+    (write-counts (r .head) s lent (write (r .head) s lent) refl)),
   )
 
-module _ (h : Head) (string area key iv s : List ℕ) (l : LoadAnswer) (f : h ≡ freshHead) (e : Answers.opened l s ≡ loadCall h string area) where
-  pub recovered-refused : (l .refusal ≡ 0 → ⊥)
-      → record { refusal = l .refusal; value = record { engine = record { head = l .head; area = s }; key = key; iv = iv } }
-      ≡ recoveredFrom string area key iv
-  unfolding recoveredFrom
-  recovered-refused z = rw (← loaded-is h string area s l f e, ne-eqb (l .refusal) 0 z)
+module _ (h : Head) (string area key iv s : List ℕ) (l : LoadDone) (f : h ≡ freshHead)
+    (e : Answers.loaded (l .answer) (l .head) s ≡ loadCall h string area) where
+  pub recovered-refused : (l .answer .refusal ≡ 0 → ⊥)
+      → Answers.recovered (l .answer .refusal) (l .head) s key iv ≡ recoverFrom string area key iv
+  unfolding recoverFrom
+  recovered-refused z = rw (← loaded-is h string area s l f e, ne-eqb (l .answer .refusal) 0 z)
 
-  pub recovered-made : l .refusal ≡ 0 → (r : Done) (key′ iv′ : List ℕ) → Answers.recovered r key′ iv′ ≡ recoverCall (l .head) s key iv
-      → Tasks.recovered r s key′ iv′ ≡ recoveredFrom string area key iv
-  unfolding recoveredFrom
-  recovered-made z r key′ iv′ q = rw (← loaded-is h string area s l f e, eq-eqb (l .refusal) 0 z, ← q)
+  pub recovered-made : l .answer .refusal ≡ 0 → (r : Outcome Calls.Recovered) → r ≡ recoverCall (l .head) s key iv
+      → r ≡ recoverFrom string area key iv
+  unfolding recoverFrom
+  recovered-made z r q = rw (← loaded-is h string area s l f e, eq-eqb (l .answer .refusal) 0 z) q

@@ -9,9 +9,9 @@ use Rattle.checkpoint.specs.Checkpoint.{room}
 use Rattle.conditions.specs.Result.{Outcome}
 use Rattle.conditions.specs.Limit.{limit}
 use Rattle.engine.specs.Head.{freshHead, headAt}
-use Rattle.engine.specs.Calls.{Engine, Ciphered, setUpCall, cipherCall, loadCall}
+use Rattle.engine.specs.Calls.{Engine, engineOf, Ciphered, Written, setUpCall, cipherCall, loadCall}
 use Rattle.theorems.specs.Account.{Four, IsFour, Checkpoint, tablesOf, checkpointOf}
-use Rattle.lab.specs.Tasks.{Written, cipherOf, opened, writtenAt, rewrittenAt, recoveredFrom}
+use Rattle.lab.specs.Tasks.{cipherOf, openCheckpoint, writeAt, rewriteAt, recoverFrom}
 
 -- what a cipher call on what is left of another call leaves
 abbrev pub cipherAfter : Outcome Engine → List ℕ → Outcome Ciphered
@@ -33,7 +33,7 @@ checkpointPut f lent =
     record {
       refusal = 0;
       value = record {
-        engine = record { head = headAt (codeOf (f .cipher)) (f .position); area = tablesOf f };
+        engine = engineOf (headAt (codeOf (f .cipher)) (f .position)) (tablesOf f);
         length = length (checkpointOf f);
         lent = checkpointOf f ++ drop (length (checkpointOf f)) lent;
       };
@@ -41,41 +41,41 @@ checkpointPut f lent =
 
 pub record FromCheckpoint : Type 0 where
   -- Opening is refused exactly as load is: after an accepted load the move back is never refused.
-  pub refused-by-load : (string area : List ℕ) → opened string area .refusal ≡ loadCall freshHead string area .refusal
+  pub refused-by-load : (string area : List ℕ) → openCheckpoint string area .refusal ≡ loadCall freshHead string area .refusal
   -- The area is that of the cipher of the checkpoint.
   pub cipher-is : (string : List ℕ) (f : Four) → Checkpoint string f → cipherOf string ≡ f .cipher
   -- The checkpoint of any four opens: the head is at position 0, and the tables are those of set-up with that key and IV.
   pub opens :
       (string area : List ℕ) (f : Four) → Checkpoint string f → length area ≡ areaLength (f .cipher)
-      → opened string area
+      → openCheckpoint string area
       ≡ record {
         refusal = 0;
-        value = record { head = headAt (codeOf (f .cipher)) 0; area = SetUp.setUp (f .cipher) (f .key) (f .iv) };
+        value = engineOf (headAt (codeOf (f .cipher)) 0) (SetUp.setUp (f .cipher) (f .key) (f .iv));
       }
   -- So opening it leaves what set up with that key and IV leaves.
   pub as-set-up :
       (string area : List ℕ) (f : Four) → Checkpoint string f → length area ≡ areaLength (f .cipher)
-      → opened string area ≡ setUpCall freshHead (codeOf (f .cipher)) (f .key) (f .iv) area
+      → openCheckpoint string area ≡ setUpCall freshHead (codeOf (f .cipher)) (f .key) (f .iv) area
   -- A log that was enciphered with the key and the IV is deciphered with nothing but the checkpoint; one that passes the limit both calls leave.
   pub deciphers :
       (string area log : List ℕ) (f : Four) → Checkpoint string f → length area ≡ areaLength (f .cipher)
       → let enciphered = cipherAfter (setUpCall freshHead (codeOf (f .cipher)) (f .key) (f .iv) area) log .value .bytes in
-      cipherAfter (opened string area) enciphered .value .bytes ≡ log
+      cipherAfter (openCheckpoint string area) enciphered .value .bytes ≡ log
   -- So it is where the enciphered log comes in parts of any lengths.
   pub in-parts :
       (string area log : List ℕ) (parts : List (List ℕ)) (f : Four) → Checkpoint string f → length area ≡ areaLength (f .cipher)
       → length log ≤ limit
       → flatten parts ≡ cipherAfter (setUpCall freshHead (codeOf (f .cipher)) (f .key) (f .iv) area) log .value .bytes
-      → streamed (opened string area .value) parts ≡ log
+      → streamed (openCheckpoint string area .value) parts ≡ log
   -- The key and the IV are recovered.
   pub recovers :
       (string area key iv : List ℕ) (f : Four) → Checkpoint string f → length area ≡ areaLength (f .cipher)
       → length key ≡ keyLength (f .cipher) → length iv ≡ ivLength (f .cipher)
-      → recoveredFrom string area key iv
+      → recoverFrom string area key iv
       ≡ record {
         refusal = 0;
         value = record {
-          engine = record { head = headAt (codeOf (f .cipher)) (f .position); area = tablesOf f };
+          engine = engineOf (headAt (codeOf (f .cipher)) (f .position)) (tablesOf f);
           key = f .key;
           iv = f .iv;
         };
@@ -83,9 +83,9 @@ pub record FromCheckpoint : Type 0 where
   -- Written with a key and an IV, the lent bytes begin with the checkpoint of that cipher, key, IV and position.
   pub writes :
       (area lent : List ℕ) (f : Four) → IsFour f → length area ≡ areaLength (f .cipher) → room (f .cipher) ≤ length lent
-      → writtenAt (codeOf (f .cipher)) (f .key) (f .iv) area (f .position) lent ≡ checkpointPut f lent
+      → writeAt (codeOf (f .cipher)) (f .key) (f .iv) area (f .position) lent ≡ checkpointPut f lent
   -- Written from a checkpoint, they begin with that of the same cipher, key and IV at the other position.
   pub rewrites :
       (string area lent : List ℕ) (f : Four) (position : ℕ) → Checkpoint string f → length area ≡ areaLength (f .cipher)
       → position ≤ limit → room (f .cipher) ≤ length lent
-      → rewrittenAt string area position lent ≡ checkpointPut (atPosition f position) lent
+      → rewriteAt string area position lent ≡ checkpointPut (atPosition f position) lent

@@ -13,12 +13,11 @@ use Rattle.cipher.specs.declared.Cipher.{Cipher}
 use Rattle.cipher.specs.declared.Cipher.the-variants.{Hc128, Hc256}
 use Rattle.cipher.specs.Numbers.{codeOf}
 use Rattle.checkpoint.specs.Checkpoint.{mostGroups}
-use Rattle.engine.specs.declared.Done.{Done}
-use Rattle.engine.specs.declared.WriteAnswer.{WriteAnswer}
+use Rattle.engine.specs.declared.answers.Done.{Done}
 use Rattle.conditions.specs.Result.{Outcome}
 use Rattle.conditions.specs.Limit.{limit}
 use Rattle.engine.specs.Head.{freshHead}
-use Rattle.engine.specs.Calls.{Engine, setUpCall, moveCall, writeCall, recoverCall, loadCall}
+use Rattle.engine.specs.Calls.{Engine, Written, Recovered, setUpCall, moveCall, writeCall, recoverCall, loadCall}
 
 -- the cipher whose area a checkpoint is loaded into: HC-128 where its first byte is that cipher's code, else HC-256
 unfoldable pub cipherOf : List ℕ → Cipher
@@ -56,81 +55,46 @@ abbrev pub andThen : {A : Type 0} → Outcome Engine → (Engine → Outcome A) 
 andThen first second kept =
     cond (eqb (first .refusal) 0) (second (first .value)) (record { refusal = first .refusal; value = kept (first .value) })
 
--- the engine that a load from a fresh head leaves
-unfoldable pub loaded : (string area : List ℕ) → Outcome Engine
-loaded string area =
+-- load a checkpoint, from a fresh head
+unfoldable pub loadFresh : (string area : List ℕ) → Outcome Engine
+loadFresh string area =
     record { refusal = loadCall freshHead string area .refusal; value = loadCall freshHead string area .value .engine }
 
--- the move from where the engine is to a position
+-- move from where the engine is to a position
 unfoldable pub moveTo : (position : ℕ) → Engine → Outcome Engine
 moveTo position e = moveCall (e .head) (e .area) (pos position -ℤ pos (e .head .position))
 
 -- load a checkpoint and move to a position
-unfoldable pub movedTo : (string area : List ℕ) (position : ℕ) → Outcome Engine
-movedTo string area position = andThen (loaded string area) (moveTo position) (λ e. e)
+unfoldable pub loadAndMove : (string area : List ℕ) (position : ℕ) → Outcome Engine
+loadAndMove string area position = andThen (loadFresh string area) (moveTo position) (λ e. e)
 
 -- load a checkpoint and move back by its position
-unfoldable pub opened : (string area : List ℕ) → Outcome Engine
-opened string area =
-    andThen (loaded string area) (λ e. moveCall (e .head) (e .area) (negℤ (pos (e .head .position)))) (λ e. e)
+unfoldable pub openCheckpoint : (string area : List ℕ) → Outcome Engine
+openCheckpoint string area =
+    andThen (loadFresh string area) (λ e. moveCall (e .head) (e .area) (negℤ (pos (e .head .position)))) (λ e. e)
 
 -- set up and move to a position
-unfoldable pub startedAt : (code : ℕ) (key iv area : List ℕ) (position : ℕ) → Outcome Engine
-startedAt code key iv area position = andThen (setUpCall freshHead code key iv area) (moveTo position) (λ e. e)
-
--- an engine, the length of the checkpoint and the lent bytes that hold it
-pub record Written : Type 0 where
-  pub engine : Engine
-  pub length : ℕ
-  pub lent : List ℕ
+unfoldable pub setUpAt : (code : ℕ) (key iv area : List ℕ) (position : ℕ) → Outcome Engine
+setUpAt code key iv area position = andThen (setUpCall freshHead code key iv area) (moveTo position) (λ e. e)
 
 -- write on what the calls before left
 abbrev pub thenWrite : Outcome Engine → List ℕ → Outcome Written
 thenWrite first lent =
-    andThen first
-    (λ e.
-    let w = writeCall (e .head) (e .area) lent in
-    record {
-      refusal = w .refusal;
-      value = record { engine = record { head = w .value .head; area = e .area }; length = w .value .length; lent = w .value .lent };
-    })
-    (λ e. record { engine = e; length = 0; lent = lent })
+    andThen first (λ e. writeCall (e .head) (e .area) lent) (λ e. record { engine = e; length = 0; lent = lent })
 
 -- set up, move to a position and write
-unfoldable pub writtenAt : (code : ℕ) (key iv area : List ℕ) (position : ℕ) (lent : List ℕ) → Outcome Written
-writtenAt code key iv area position lent = thenWrite (startedAt code key iv area position) lent
+unfoldable pub writeAt : (code : ℕ) (key iv area : List ℕ) (position : ℕ) (lent : List ℕ) → Outcome Written
+writeAt code key iv area position lent = thenWrite (setUpAt code key iv area position) lent
 
 -- load a checkpoint, move to a position and write
-unfoldable pub rewrittenAt : (string area : List ℕ) (position : ℕ) (lent : List ℕ) → Outcome Written
-rewrittenAt string area position lent = thenWrite (movedTo string area position) lent
+unfoldable pub rewriteAt : (string area : List ℕ) (position : ℕ) (lent : List ℕ) → Outcome Written
+rewriteAt string area position lent = thenWrite (loadAndMove string area position) lent
 
 -- n counts bytes at the start of a list; the second part follows from the first, and is said for the prover, which asks for it
 abbrev pub Counts : ℕ → List ℕ → Type 0
 Counts n bytes = (n ≤ length bytes) × (n ≡ length (take n bytes))
 
--- an engine, and the buffers of a key and an IV
-pub record Recovered : Type 0 where
-  pub engine : Engine
-  pub key : List ℕ
-  pub iv : List ℕ
-
 -- load a checkpoint and recover its key and IV
-unfoldable pub recoveredFrom : (string area key iv : List ℕ) → Outcome Recovered
-recoveredFrom string area key iv =
-    andThen (loaded string area)
-    (λ e.
-    let r = recoverCall (e .head) (e .area) key iv in
-    record {
-      refusal = r .refusal;
-      value = record { engine = record { head = r .value .head; area = e .area }; key = r .value .key; iv = r .value .iv };
-    })
-    (λ e. record { engine = e; key = key; iv = iv })
-
--- what the structs of the code mean, with the contents of the lent slices at exit
-abbrev pub written : WriteAnswer → List ℕ → List ℕ → Outcome Written
-written r area lent =
-    record { refusal = r .refusal; value = record { engine = record { head = r .head; area = area }; length = r .length; lent = lent } }
-
-abbrev pub recovered : Done → List ℕ → List ℕ → List ℕ → Outcome Recovered
-recovered r area key iv =
-    record { refusal = r .refusal; value = record { engine = record { head = r .head; area = area }; key = key; iv = iv } }
+unfoldable pub recoverFrom : (string area key iv : List ℕ) → Outcome Recovered
+recoverFrom string area key iv =
+    andThen (loadFresh string area) (λ e. recoverCall (e .head) (e .area) key iv) (λ e. record { engine = e; key = key; iv = iv })

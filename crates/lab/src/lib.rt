@@ -9,9 +9,10 @@ ghost use Rattle.lab.specs.Words as Words;
 ghost use Rattle.lab.specs.Decimal as Decimals;
 ghost use Rattle.lab.specs.Tasks as Tasks;
 use cipher::Cipher;
-use engine::Done;
 use engine::Head;
-use engine::WriteAnswer;
+use engine::answers::Done;
+use engine::answers::WriteAnswer;
+use engine::answers::WriteDone;
 use varint::Read;
 
 // Whether two words are the same.
@@ -66,10 +67,10 @@ pub fn cipher_code(word: &[u8]) -> u8
     ensures { λ r. ⌜ r ≡ Words.cipherCode (now (word .entry)) ⌝ }
 {
     if same(word, b"hc128") {
-        return 1;
+        return cipher::code_of(Cipher::Hc128);
     }
     if same(word, b"hc256") {
-        return 2;
+        return cipher::code_of(Cipher::Hc256);
     }
     0
 }
@@ -114,7 +115,7 @@ pub fn cipher_of(string: &[u8]) -> Cipher
     if string.len() == 0 {
         return Cipher::Hc256;
     }
-    if string[0] == 1 {
+    if string[0] == cipher::code_of(Cipher::Hc128) {
         return Cipher::Hc128;
     }
     Cipher::Hc256
@@ -160,14 +161,19 @@ pub fn passes_limit(from: u64, n: u64) -> bool
 
 // Enciphers or deciphers the next bytes of a log. Where it is accepted, the position grows by their number and stays within the limit.
 pub fn cipher_next(head: Head, area: &mut [u32], bytes: &mut [u8]) -> Done
-    ensures { λ r. ⌜ (Answers.ciphered r (now (area .exit)) (now (bytes .exit)) ≡ Calls.cipherCall head (now (area .entry)) (now (bytes .entry))) × Tasks.Advance (head .position) (length (now (bytes .entry))) r ⌝ }
+    ensures { λ r. ⌜
+        (Answers.ciphered (r .refusal) (r .head) (now (area .exit)) (now (bytes .exit))
+        ≡ Calls.cipherCall head (now (area .entry)) (now (bytes .entry)))
+        × Tasks.Advance (head .position) (length (now (bytes .entry))) r ⌝ }
 {
     head.cipher(area, bytes)
 }
 
 // Moves an engine to a position.
 pub fn move_to(head: Head, area: &mut [u32], position: u64) -> Done
-    ensures { λ r. ⌜ Answers.done r (now (area .exit)) ≡ Tasks.moveTo position (record { head = head; area = now (area .entry) }) ⌝ }
+    ensures { λ r. ⌜
+        Answers.done (r .refusal) (r .head) (now (area .exit))
+        ≡ Tasks.moveTo position (Calls.engineOf head (now (area .entry))) ⌝ }
 {
     let here = head.position;
     if Head::LIMIT < here {
@@ -180,11 +186,14 @@ pub fn move_to(head: Head, area: &mut [u32], position: u64) -> Done
 }
 
 // Loads a checkpoint and moves to a position.
-pub fn moved_to(string: &[u8], area: &mut [u32], position: u64) -> Done
-    ensures { λ r. ⌜ Answers.done r (now (area .exit)) ≡ Tasks.movedTo (now (string .entry)) (now (area .entry)) position ⌝ }
+pub fn load_and_move(string: &[u8], area: &mut [u32], position: u64) -> Done
+    ensures { λ r. ⌜
+        Answers.done (r .refusal) (r .head) (now (area .exit))
+        ≡ Tasks.loadAndMove (now (string .entry)) (now (area .entry)) position ⌝ }
 {
     let loaded = Head::fresh().load(area, string);
-    let refusal = loaded.refusal;
+    let answer = loaded.answer;
+    let refusal = answer.refusal;
     let head = loaded.head;
     if refusal != 0 {
         return Done {
@@ -196,15 +205,19 @@ pub fn moved_to(string: &[u8], area: &mut [u32], position: u64) -> Done
 }
 
 // Loads a checkpoint and moves back to position 0.
-pub fn opened(string: &[u8], area: &mut [u32]) -> Done
-    ensures { λ r. ⌜ Answers.done r (now (area .exit)) ≡ Tasks.opened (now (string .entry)) (now (area .entry)) ⌝ }
+pub fn open_checkpoint(string: &[u8], area: &mut [u32]) -> Done
+    ensures { λ r. ⌜
+        Answers.done (r .refusal) (r .head) (now (area .exit))
+        ≡ Tasks.openCheckpoint (now (string .entry)) (now (area .entry)) ⌝ }
 {
-    moved_to(string, area, 0)
+    load_and_move(string, area, 0)
 }
 
 // Sets up with a key and an IV and moves to a position.
-pub fn started_at(code: u8, key: &[u8], iv: &[u8], area: &mut [u32], position: u64) -> Done
-    ensures { λ r. ⌜ Answers.done r (now (area .exit)) ≡ Tasks.startedAt code (now (key .entry)) (now (iv .entry)) (now (area .entry)) position ⌝ }
+pub fn set_up_at(code: u8, key: &[u8], iv: &[u8], area: &mut [u32], position: u64) -> Done
+    ensures { λ r. ⌜
+        Answers.done (r .refusal) (r .head) (now (area .exit))
+        ≡ Tasks.setUpAt code (now (key .entry)) (now (iv .entry)) (now (area .entry)) position ⌝ }
 {
     let done = Head::fresh().set_up(code, key, iv, area);
     let refusal = done.refusal;
@@ -218,54 +231,68 @@ pub fn started_at(code: u8, key: &[u8], iv: &[u8], area: &mut [u32], position: u
     move_to(start, area, position)
 }
 
+// What a write hands back where a call before it was refused.
+fn not_written(refusal: u8, head: Head) -> WriteDone
+    ensures { λ r. ⌜ r ≡ record { answer = record { refusal = refusal; length = 0 }; head = head } ⌝ }
+{
+    WriteDone {
+        answer: WriteAnswer {
+            refusal: refusal,
+            length: 0,
+        },
+        head: head,
+    }
+}
+
 // Sets up with a key and an IV, moves to a position and puts the checkpoint at the start of the lent bytes.
-pub fn written_at(
+pub fn write_at(
     code: u8,
     key: &[u8],
     iv: &[u8],
     area: &mut [u32],
     position: u64,
     lent: &mut [u8],
-) -> WriteAnswer
-    ensures { λ r. ⌜ (Tasks.written r (now (area .exit)) (now (lent .exit)) ≡ Tasks.writtenAt code (now (key .entry)) (now (iv .entry)) (now (area .entry)) position (now (lent .entry))) × Tasks.Counts (r .length) (now (lent .exit)) ⌝ }
+) -> WriteDone
+    ensures { λ r. ⌜
+        (Answers.written (r .answer) (r .head) (now (area .exit)) (now (lent .exit))
+        ≡ Tasks.writeAt code (now (key .entry)) (now (iv .entry)) (now (area .entry)) position (now (lent .entry)))
+        × Tasks.Counts (r .answer .length) (now (lent .exit)) ⌝ }
 {
-    let done = started_at(code, key, iv, area, position);
+    let done = set_up_at(code, key, iv, area, position);
     let refusal = done.refusal;
     let head = done.head;
     if refusal != 0 {
-        return WriteAnswer {
-            refusal: refusal,
-            length: 0,
-            head: head,
-        };
+        return not_written(refusal, head);
     }
     head.write(area, lent)
 }
 
 // Loads a checkpoint, moves to a position and puts the checkpoint there at the start of the lent bytes.
-pub fn rewritten_at(string: &[u8], area: &mut [u32], position: u64, lent: &mut [u8]) -> WriteAnswer
-    ensures { λ r. ⌜ (Tasks.written r (now (area .exit)) (now (lent .exit)) ≡ Tasks.rewrittenAt (now (string .entry)) (now (area .entry)) position (now (lent .entry))) × Tasks.Counts (r .length) (now (lent .exit)) ⌝ }
+pub fn rewrite_at(string: &[u8], area: &mut [u32], position: u64, lent: &mut [u8]) -> WriteDone
+    ensures { λ r. ⌜
+        (Answers.written (r .answer) (r .head) (now (area .exit)) (now (lent .exit))
+        ≡ Tasks.rewriteAt (now (string .entry)) (now (area .entry)) position (now (lent .entry)))
+        × Tasks.Counts (r .answer .length) (now (lent .exit)) ⌝ }
 {
-    let done = moved_to(string, area, position);
+    let done = load_and_move(string, area, position);
     let refusal = done.refusal;
     let head = done.head;
     if refusal != 0 {
-        return WriteAnswer {
-            refusal: refusal,
-            length: 0,
-            head: head,
-        };
+        return not_written(refusal, head);
     }
     head.write(area, lent)
 }
 
 // Loads a checkpoint and fills the two buffers with its key and its IV.
-pub fn recovered(string: &[u8], area: &mut [u32], key: &mut [u8], iv: &mut [u8]) -> Done
-    ensures { λ r. ⌜ Tasks.recovered r (now (area .exit)) (now (key .exit)) (now (iv .exit)) ≡ Tasks.recoveredFrom (now (string .entry)) (now (area .entry)) (now (key .entry)) (now (iv .entry)) ⌝ }
+pub fn recover_from(string: &[u8], area: &mut [u32], key: &mut [u8], iv: &mut [u8]) -> Done
+    ensures { λ r. ⌜
+        Answers.recovered (r .refusal) (r .head) (now (area .exit)) (now (key .exit)) (now (iv .exit))
+        ≡ Tasks.recoverFrom (now (string .entry)) (now (area .entry)) (now (key .entry)) (now (iv .entry)) ⌝ }
 {
-    let found = Head::fresh().load(area, string);
-    let refusal = found.refusal;
-    let head = found.head;
+    let loaded = Head::fresh().load(area, string);
+    let answer = loaded.answer;
+    let refusal = answer.refusal;
+    let head = loaded.head;
     if refusal != 0 {
         return Done {
             refusal: refusal,

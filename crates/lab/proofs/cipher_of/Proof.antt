@@ -1,5 +1,5 @@
 -- `cipher_of` meets its contract: the first byte, if there is one, is compared with the code of HC-128. Assumes nothing.
-use mathlib.Core.Path.{_≡_, refl}
+use mathlib.Core.Path.{_≡_, refl, sym, _∙_}
 use mathlib.Core.List.{List, [], _∷_}
 use Prim.Native.Nat.{ℕ}
 use native.Mathlib.Omega.{arith}
@@ -30,10 +30,10 @@ returns : tie.Need-returns
 returns c = of-empty _ (c .if1 .taken)
 
 returns-2 : tie.Need-returns-2
-returns-2 c = of-one _ (c .before .before .if1 .left) (c .if2 .taken)
+returns-2 c = of-one _ (c .before .before .before .if1 .left) (c .if2 .taken ∙ c .before .code-of .ensures)
 
 returns-3 : tie.Need-returns-3
-returns-3 c = of-other _ (c .before .before .if1 .left) (c .if2 .left)
+returns-3 c = of-other _ (c .before .before .before .if1 .left) (λ e. c .if2 .left (e ∙ sym (c .before .code-of .ensures)))
 
 pub cipher-of-spec : {M : Type 1} → statement M
-cipher-of-spec = tie.close (tie.spec returns (λ c. search needs) returns-2 returns-3)
+cipher-of-spec = tie.close (tie.spec returns (λ c. search needs) (λ c κs. search needs) returns-2 returns-3)

@@ -1,22 +1,22 @@
--- `recovered` meets its contract: recover is called on what an accepted load left. Assumes nothing.
+-- `recover_from` meets its contract: recover is called on what an accepted load left. Assumes nothing.
 use borrow.Author.Needs.{needs}
 use Rattle.lab.proofs.Tasks.{recovered-refused, recovered-made}
-use Rattle.lab.proofs.recovered.Statement.{statement}
-use Rattle.lab.proofs.recovered.Tie as tie
+use Rattle.lab.proofs.recover_from.Statement.{statement}
+use Rattle.lab.proofs.recover_from.Tie as tie
 
 returns : tie.Need-returns
 returns c =
-    let called = c .before .before .before .before in
+    let called = c .before .before .before .before .before in
     recovered-refused _ _ _ _ _ _ _ (called .before .before .fresh .ensures) (called .load .ensures) (c .if1 .taken)
 
 returns-2 : tie.Need-returns-2
 returns-2 c =
     let made = c .before .before .before .before in
     let tested = made .before .before .before .before in
-    let called = tested .before .before .before .before in
-    recovered-made _ _ _ _ _ _ _ (called .before .before .fresh .ensures) (called .load .ensures) (tested .if1 .left) _ _ _ (made .recover .ensures)
+    let called = tested .before .before .before .before .before in
+    recovered-made _ _ _ _ _ _ _ (called .before .before .fresh .ensures) (called .load .ensures) (tested .if1 .left) _ (made .recover .ensures)
 
-pub recovered-spec : {M : Type 1} → statement M
-recovered-spec =
+pub recover-from-spec : {M : Type 1} → statement M
+recover-from-spec =
     let a₁ = tie.spec (λ c κs. search needs) (λ c κs. search needs) (λ c. search needs) returns (λ c κs. search needs) in
     tie.close (a₁ (λ c. search needs) (λ c. search needs) (λ c. search needs) returns-2)

@@ -1,21 +1,21 @@
--- `moved_to` meets its contract: the move is made on what an accepted load left. Assumes nothing.
+-- `load_and_move` meets its contract: the move is made on what an accepted load left. Assumes nothing.
 use borrow.Author.Needs.{needs}
 use Rattle.lab.proofs.Tasks.{moved-refused, moved-made}
-use Rattle.lab.proofs.moved_to.Statement.{statement}
-use Rattle.lab.proofs.moved_to.Tie as tie
+use Rattle.lab.proofs.load_and_move.Statement.{statement}
+use Rattle.lab.proofs.load_and_move.Tie as tie
 
 returns : tie.Need-returns
 returns c =
-    let called = c .before .before .before .before in
+    let called = c .before .before .before .before .before in
     moved-refused _ _ _ _ _ _ (called .before .before .fresh .ensures) (called .load .ensures) (c .if1 .taken)
 
 returns-2 : tie.Need-returns-2
 returns-2 c =
     let tested = c .before .before .before .before in
-    let called = tested .before .before .before .before in
+    let called = tested .before .before .before .before .before in
     moved-made _ _ _ _ _ _ (called .before .before .fresh .ensures) (called .load .ensures) (tested .if1 .left) _ (c .before .before .move-to .ensures)
 
-pub moved-to-spec : {M : Type 1} → statement M
-moved-to-spec =
+pub load-and-move-spec : {M : Type 1} → statement M
+load-and-move-spec =
     let a₁ = tie.spec (λ c κs. search needs) (λ c κs. search needs) (λ c. search needs) returns (λ c κs. search needs) in
     tie.close (a₁ (λ c. search needs) returns-2)
