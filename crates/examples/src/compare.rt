@@ -1,7 +1,7 @@
 // Words, bytes and heads, filled and compared.
 ghost use Prim.Native.Nat.{_≤_};
-use engine::Done;
 use engine::Head;
+use engine::answers::Done;
 
 // Fills words: each is the last one plus the stride.
 pub fn fill_words(words: &mut [u32], first: u32, stride: u32) {
@@ -144,8 +144,9 @@ pub fn gave(done: Done, refusal: u8, code: u8, position: u64) -> bool {
 
 // Whether spent by a head gives a refusal number and a count, and leaves the head.
 pub fn has_spent(code: u8, position: u64, refusal: u8, count: u64) -> bool {
-    let answer = Head::at(code, position).spent();
-    let head = answer.head;
+    let done = Head::at(code, position).spent();
+    let head = done.head;
+    let answer = done.answer;
     (answer.refusal == refusal) & (answer.count == count) & is_head(head, code, position)
 }
 

@@ -46,8 +46,9 @@ fn refuses_move(code: u8, position: u64, area: &mut [u32], distance: i64, refusa
 fn refuses_write(code: u8, position: u64, area: &mut [u32], lent: &mut [u8], refusal: u8) -> bool {
     fill_words(area, 7, STRIDE);
     fill_bytes(lent, 5, 3);
-    let answer = Head::at(code, position).write(area, lent);
-    let head = answer.head;
+    let done = Head::at(code, position).write(area, lent);
+    let head = done.head;
+    let answer = done.answer;
     let stay = has_words(area, 7, STRIDE) & has_bytes(lent, 5, 3);
     stay & (answer.refusal == refusal) & (answer.length == 0) & is_head(head, code, position)
 }
@@ -83,8 +84,9 @@ fn refuses_opening(
 // Whether load gets a refusal number and no key and IV, and head and area stay.
 pub fn refuses_load(string: &[u8], area: &mut [u32], refusal: u8) -> bool {
     fill_words(area, 7, STRIDE);
-    let answer = Head::at(2, 77).load(area, string);
-    let head = answer.head;
+    let done = Head::at(2, 77).load(area, string);
+    let head = done.head;
+    let answer = done.answer;
     let key = answer.key;
     let iv = answer.iv;
     let none = has_words(&key, 0, 0) & has_words(&iv, 0, 0);

@@ -149,8 +149,9 @@ fn is_checkpoint(string: &[u8], code: u8, position: &[u8], area: &[u32]) -> bool
 // Writes a checkpoint and gives its length; later bytes stay.
 fn writes(code: u8, at: u64, position: &[u8], area: &[u32], lent: &mut [u8]) -> usize {
     fill_bytes(lent, 165, 0);
-    let answer = Head::at(code, at).write(area, lent);
-    let head = answer.head;
+    let done = Head::at(code, at).write(area, lent);
+    let head = done.head;
+    let answer = done.answer;
     let length = answer.length;
     let n = least(length, lent.len());
     let given = (answer.refusal == 0) & (length == n) & is_head(head, code, at);
@@ -173,8 +174,9 @@ fn eight_are(words: &[u32], n: usize, first: u32) -> bool {
 // Whether load gives a head, and the tables, the key and the IV that the area came from.
 fn loads(code: u8, at: u64, string: &[u8], area: &[u32], other: &mut [u32]) -> bool {
     fill_words(other, 9, STRIDE);
-    let answer = Head::at(3, 67_108_865).load(other, string);
-    let head = answer.head;
+    let done = Head::at(3, 67_108_865).load(other, string);
+    let head = done.head;
+    let answer = done.answer;
     let key = answer.key;
     let iv = answer.iv;
     let n = key_bytes(code) / 4;

@@ -3,7 +3,7 @@ use mathlib.Core.Path.{_≡_}
 use mathlib.Core.Bool.{true}
 use Prim.Native.Nat.{_≤_, _<_}
 use Rattle.engine.specs.declared.Head.{Head}
-use Rattle.engine.specs.Head.{limit}
+use Rattle.conditions.specs.Limit.{limit}
 use Rattle.hullerbamboo.specs.declared.log.Turn.{Turn}
 
 -- where there is more to do, the position has grown, and is within the limit

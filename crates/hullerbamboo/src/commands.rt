@@ -4,6 +4,7 @@ use crate::log;
 use crate::say;
 use crate::sizes;
 use cipher::Cipher;
+use cipher::Known;
 use engine::Head;
 use lab::Number;
 use libc::STDERR_FILENO;
@@ -126,7 +127,7 @@ fn cipher_log(job: Job, key: &[u8], iv: &[u8], area: &mut [u32]) {
     let c = job.cipher;
     let position = job.position;
     let progress = job.progress;
-    let done = lab::started_at(cipher::code_of(c), key, iv, area, position);
+    let done = lab::set_up_at(cipher::code_of(c), key, iv, area, position);
     let refusal = done.refusal;
     if refusal != 0 {
         refuse_job(job, refusal);
@@ -147,7 +148,8 @@ fn save(i: usize, bytes: &[u8]) {
 fn write_checkpoint(job: Job, key: &[u8], iv: &[u8], area: &mut [u32], lent: &mut [u8]) {
     let c = job.cipher;
     let position = job.position;
-    let answer = lab::written_at(cipher::code_of(c), key, iv, area, position, lent);
+    let done = lab::write_at(cipher::code_of(c), key, iv, area, position, lent);
+    let answer = done.answer;
     let refusal = answer.refusal;
     if refusal != 0 {
         refuse_job(job, refusal);
@@ -208,13 +210,10 @@ fn begin(position: Position, writes: bool, progress: bool) {
         return;
     }
     let code = code();
-    if code == 0 {
+    let known = cipher::by_code(code);
+    let Known::Is(c) = known else {
         return;
-    }
-    let mut c = Cipher::Hc256;
-    if code == 1 {
-        c = Cipher::Hc128;
-    }
+    };
     with_key(Job {
         cipher: c,
         position: value,
@@ -250,7 +249,7 @@ pub fn write() {
 
 // Deciphers a log from byte 0 on.
 fn open_log(string: &[u8], area: &mut [u32], progress: bool) {
-    let done = lab::opened(string, area);
+    let done = lab::open_checkpoint(string, area);
     let refusal = done.refusal;
     if refusal != 0 {
         refuse(2, refusal);
@@ -304,7 +303,8 @@ pub fn open() {
 
 // Writes the checkpoint at another position.
 fn save_at(string: &[u8], area: &mut [u32], position: u64, lent: &mut [u8]) {
-    let answer = lab::rewritten_at(string, area, position, lent);
+    let done = lab::rewrite_at(string, area, position, lent);
+    let answer = done.answer;
     let refusal = answer.refusal;
     if refusal == 6 {
         say::refused_position(position, refusal);
@@ -376,7 +376,7 @@ fn save_key_and_iv(key: &[u8], iv: &[u8]) {
 
 // Writes the key and the IV of a checkpoint.
 fn recover_string(string: &[u8], area: &mut [u32], key: &mut [u8], iv: &mut [u8]) {
-    let done = lab::recovered(string, area, key, iv);
+    let done = lab::recover_from(string, area, key, iv);
     let refusal = done.refusal;
     if refusal != 0 {
         refuse(2, refusal);
@@ -435,16 +435,30 @@ fn wide(byte: u8) -> u64 {
     byte as u64
 }
 
+// The name of a cipher.
+fn put_name(c: Cipher) {
+    match c {
+        Cipher::Hc128 => {
+            io::write_all(STDOUT_FILENO, b"cipher: hc128\n");
+        }
+        Cipher::Hc256 => {
+            io::write_all(STDOUT_FILENO, b"cipher: hc256\n");
+        }
+    }
+}
+
 // The cipher that the first byte of a checkpoint names.
 fn put_cipher(string: &[u8]) {
     if string.len() == 0 {
         io::write_all(STDOUT_FILENO, b"cipher: none\n");
-    } else if string[0] == 1 {
-        io::write_all(STDOUT_FILENO, b"cipher: hc128\n");
-    } else if string[0] == 2 {
-        io::write_all(STDOUT_FILENO, b"cipher: hc256\n");
-    } else {
-        io::write_all(STDOUT_FILENO, b"cipher: none\n");
+        return;
+    }
+    let known = cipher::by_code(string[0]);
+    match known {
+        Known::Is(c) => put_name(c),
+        Known::Unknown => {
+            io::write_all(STDOUT_FILENO, b"cipher: none\n");
+        }
     }
 }
 
@@ -462,7 +476,8 @@ fn put_position(string: &[u8]) {
 // Whether a checkpoint loads, and then how much keystream is spent.
 fn put_load(string: &[u8], area: &mut [u32]) {
     let loaded = Head::fresh().load(area, string);
-    let refusal = loaded.refusal;
+    let answer = loaded.answer;
+    let refusal = answer.refusal;
     if refusal != 0 {
         io::write_all(STDOUT_FILENO, b"loads: ");
         say::put_refusal(STDOUT_FILENO, refusal);
@@ -470,14 +485,15 @@ fn put_load(string: &[u8], area: &mut [u32]) {
         return;
     }
     let head = loaded.head;
-    let spent = head.spent();
+    let counted = head.spent();
+    let spent = counted.answer;
     put_number(b"spent: ", spent.count);
     io::write_all(STDOUT_FILENO, b"loads: accepted\n");
 }
 
 // The key and the IV of a checkpoint that loads.
 fn put_secret(string: &[u8], area: &mut [u32], key: &mut [u8], iv: &mut [u8]) {
-    let done = lab::recovered(string, area, key, iv);
+    let done = lab::recover_from(string, area, key, iv);
     let refusal = done.refusal;
     if refusal == 0 {
         put_bytes(b"key: ", key);

@@ -6,7 +6,7 @@ use native.Mathlib.Omega.{arith}
 use borrow.Author.Needs.{needs}
 use borrow.Author.Tests.{not-false}
 use lib.ListN.{length}
-use Rattle.engine.specs.Head.{limit}
+use Rattle.conditions.specs.Limit.{limit}
 use Rattle.hullerbamboo.proofs.log.turns.Statement.{statement}
 use Rattle.hullerbamboo.proofs.log.turns.Tie as tie
 
