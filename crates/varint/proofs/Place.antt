@@ -11,7 +11,7 @@ use Rattle.laws.proofs.Lists.{drop-below}
 use Rattle.varint.specs.declared.Read.{Read}
 use Rattle.varint.specs.declared.Read.the-variants as read
 use Rattle.varint.specs.Number.{before, readGroups}
-use Rattle.varint.specs.Place.{placeIs, nextWithin}
+use Rattle.varint.specs.Place.{readingOf, nextWithin}
 use Rattle.varint.proofs.Reading.{groups-read, read-none, read-end, read-last, read-small, read-more}
 
 -- the answer where a group b announced others, from the answer for those
@@ -22,7 +22,7 @@ after b read.Malformed = read.Malformed
 
 -- what `read_groups` ensures of its answer
 abbrev pub Ensured : List ℕ → ℕ → ℕ → ℕ → Read → Type 0
-Ensured s at most least r = (placeIs s r ≡ readGroups most least (drop at s)) × nextWithin at (length s) r
+Ensured s at most least r = (readingOf s r ≡ readGroups most least (drop at s)) × nextWithin at (length s) r
 
 module _ (s : List ℕ) (at most least : ℕ) where
   pub at-none : most ≡ 0 → Ensured s at most least read.Malformed
@@ -48,7 +48,7 @@ module _ (s : List ℕ) (at most least : ℕ) where
       pub at-last : b < 128 → least ≤ b → Ensured s at most least (read.Number b (at + 1))
       at-last h l = (sym (at-group ∙ read-last (most - 1) least b (drop (at + 1) s) h l), (omega arith, omega arith))
 
-      after-found : (r : Read) → placeIs s (after b r) ≡ before b (placeIs s r)
+      after-found : (r : Read) → readingOf s (after b r) ≡ before b (readingOf s r)
       after-found (read.Number value next) = refl
       after-found read.Ended = refl
       after-found read.Malformed = refl

@@ -8,7 +8,7 @@ use native.Mathlib.Omega.{arith}
 use borrow.Author.Tests.{lt-ltb, le-ltb, le-leb, lt-leb}
 use lib.ListN.{getD}
 use Rattle.laws.proofs.Lists.{below-or-not}
-use Rattle.varint.specs.Number.{number, groups, Found, is, ended, malformed, before, readGroups, readNumber}
+use Rattle.varint.specs.Number.{number, groups, Reading, is, ended, malformed, before, readGroups, readNumber}
 use Rattle.varint.proofs.Groups.{groups-induction, number-groups, number-last, number-more}
 
 -- the clauses of `readGroups`, by the tests that choose them
@@ -59,12 +59,12 @@ pub record Written (k least : ℕ) (s : List ℕ) (n : ℕ) (rest : List ℕ) : 
   pub string : s ≡ number n ++ rest
 
 -- what was found in a string is what was written there
-abbrev FoundIn : ℕ → ℕ → List ℕ → Found → Type 0
+abbrev FoundIn : ℕ → ℕ → List ℕ → Reading → Type 0
 FoundIn k least s (is n rest) = Written k least s n rest
 FoundIn k least s ended = Unit {0}
 FoundIn k least s malformed = Unit {0}
 
-found-before : (k least b : ℕ) (s : List ℕ) (f : Found) → suc k ≤ 10 → least ≤ 1 → 128 ≤ b → b < 256
+found-before : (k least b : ℕ) (s : List ℕ) (f : Reading) → suc k ≤ 10 → least ≤ 1 → 128 ≤ b → b < 256
     → FoundIn k 1 s f → FoundIn (suc k) least (b ∷ s) (before b f)
 found-before k least b s (is n rest) h m p q w =
     let v : ℕ = b - 128 + 128 * n in

@@ -4,12 +4,12 @@ use Prim.Native.Nat.{ℕ, _≤_, _<_}
 use lib.ListN.{drop}
 use Rattle.varint.specs.declared.Read.{Read}
 use Rattle.varint.specs.declared.Read.the-variants as read
-use Rattle.varint.specs.Number.{Found, is, ended, malformed}
+use Rattle.varint.specs.Number.{Reading, is, ended, malformed}
 
-abbrev pub placeIs : List ℕ → Read → Found
-placeIs string (read.Number value next) = is value (drop next string)
-placeIs string read.Ended = ended
-placeIs string read.Malformed = malformed
+abbrev pub readingOf : List ℕ → Read → Reading
+readingOf string (read.Number value next) = is value (drop next string)
+readingOf string read.Ended = ended
+readingOf string read.Malformed = malformed
 
 -- the place after a number that was read from place `at` on lies after `at`, and in the string, which has n bytes
 abbrev pub nextWithin : ℕ → ℕ → Read → Type 0
