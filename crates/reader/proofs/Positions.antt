@@ -83,3 +83,8 @@ module _ (s : List ℕ) (r : Position) (e : r ≡ positionOf s) where
       (λ v next l h z. (refl, cc, cc))
       (λ z. (cc, cc, cc))
       (λ z. (cc, cc, cc)))
+
+  -- refused or not, next lies in the string
+  pub position-within : r .next ≤ length s
+  position-within =
+      rw e (position-cases s (λ r f. r .next ≤ length s) (λ value next l h. h) (omega arith) (omega arith))
