@@ -12,10 +12,21 @@ use Rattle.cipher.specs.Numbers.{byCode, areaLength}
 use Rattle.varint.specs.Number.{readNumber}
 use Rattle.checkpoint.specs.Checkpoint.{mostGroups}
 use Rattle.conditions.specs.declared.Beginning.{Beginning}
-use Rattle.conditions.specs.Result.{refused, accepted}
+use Rattle.conditions.specs.Result.{Result, refused, accepted}
 use Rattle.conditions.specs.Limit.{limit}
-use Rattle.conditions.specs.Conditions.{positionRead, firstByte, loadCheck}
-use Rattle.conditions.specs.Checks.{BeginningIs}
+use Rattle.conditions.specs.Conditions.{PositionRead, positionRead, firstByte, loadCheck}
+use Rattle.conditions.specs.Checks.{resultOf, BeginningIs}
+use Rattle.reader.specs.declared.Position.{Position}
+use Rattle.reader.specs.Readings.{positionOf}
+use Rattle.reader.proofs.Positions.{position-cases}
+
+-- the position as the reader gives it
+abbrev pub positionIn : List ℕ → Position → Result PositionRead
+positionIn string r = resultOf (r .refusal) (record { position = r .value; rest = drop (r .next) string })
+
+pub position-is : (string : List ℕ) (r : Position) → r ≡ positionOf string
+    → positionIn string r ≡ positionRead (readNumber mostGroups (drop 1 string))
+position-is string r e = rw e (position-cases string (λ r f. positionIn string r ≡ positionRead f) (λ value next l h. refl) refl refl)
 
 first-byte : (string : List ℕ) → (length string ≡ 0 → ⊥) → firstByte string ≡ some (getD string 0 0)
 first-byte [] h = absurd (h refl)

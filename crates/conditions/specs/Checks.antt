@@ -9,14 +9,12 @@ use lib.ListN.{length, drop}
 use Rattle.cipher.specs.declared.Cipher.{Cipher}
 use Rattle.cipher.specs.Numbers.{areaLength, keyLength, ivLength}
 use Rattle.conditions.specs.declared.Checked.{Checked}
-use Rattle.conditions.specs.declared.Place.{Place}
 use Rattle.conditions.specs.declared.Beginning.{Beginning}
 use Rattle.conditions.specs.declared.End.{End}
 use Rattle.conditions.specs.declared.Distance.{Distance}
 use Rattle.conditions.specs.declared.Distance.the-variants.{Forward, Back}
 use Rattle.conditions.specs.Result.{Result, refused, accepted}
 use Rattle.conditions.specs.Limit.{limit}
-use Rattle.conditions.specs.Conditions as Conditions
 use Rattle.conditions.specs.Conditions.{loadCheck, loadFound}
 
 -- a refusal number and a value, where 0 means accepted
@@ -45,10 +43,7 @@ pub record Ready (r : Checked) (position size : ℕ) : Type 0 where
   pub area-is : r .refusal ≡ 0 → size ≡ areaLength (r .cipher)
   pub within : r .refusal ≡ 0 → position ≤ limit
 
--- the position of a checkpoint, and load's conditions up to 11
-abbrev pub positionIs : List ℕ → Place → Result Conditions.PositionRead
-positionIs string r = resultOf (r .refusal) (record { position = r .position; rest = drop (r .next) string })
-
+-- load's conditions up to 11
 pub record BeginningIs (string : List ℕ) (size : ℕ) (r : Beginning) : Type 0 where
   pub refused-is : (r .refusal ≡ 0 → ⊥) → loadCheck string size ≡ refused (r .refusal)
   pub passed-is : r .refusal ≡ 0 → loadCheck string size ≡ loadFound (r .cipher) (r .position) (drop (r .next) string)

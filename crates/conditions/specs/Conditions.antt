@@ -12,7 +12,7 @@ use Rattle.cipher.specs.Numbers.{byCode, areaLength, keyLength, ivLength}
 use Rattle.keystream.specs.Steps.{stepsBack, stepsAt}
 use Rattle.setup.specs.SetUp as SetUp
 use Rattle.setup.specs.SetUp.{Undone, undo}
-use Rattle.varint.specs.Number.{Found, is, ended, malformed, readNumber}
+use Rattle.varint.specs.Number.{Reading, is, ended, malformed, readNumber}
 use Rattle.checkpoint.specs.Checkpoint.{mostGroups}
 use Rattle.conditions.specs.Result.{Result, refused, accepted, _>>=_, _>>_, refuse_unless_, refuse_without_}
 use Rattle.conditions.specs.Limit.{limit}
@@ -89,7 +89,7 @@ pub record PositionRead : Type 0 where
   pub position : ℕ
   pub rest : List ℕ
 
-abbrev pub positionRead : Found → Result PositionRead
+abbrev pub positionRead : Reading → Result PositionRead
 positionRead (is value rest) = accepted (record { position = value; rest = rest })
 positionRead ended = refused 9
 positionRead malformed = refused 10

@@ -2,15 +2,11 @@
 // codes, positions, sizes and strings; nothing is changed.
 ghost use mathlib.Core.Path.{_≡_};
 ghost use Prim.Native.Nat.{_≤_};
-ghost use lib.ListN.{length, drop};
-ghost use Rattle.varint.specs.Number.{readNumber};
-ghost use Rattle.checkpoint.specs.Checkpoint as Checkpoint;
 ghost use Rattle.conditions.specs.Limit.{limit};
 ghost use Rattle.conditions.specs.Conditions as Conditions;
 ghost use Rattle.conditions.specs.Checks as Checks;
 use cipher::Cipher;
 use cipher::Known;
-use varint::Read;
 
 // The stream limit in bytes.
 pub const LIMIT: u64 = 67_108_864;
@@ -140,40 +136,6 @@ pub fn end_of(position: u64, distance: i64) -> End
     }
 }
 
-// The position of a checkpoint: the refusal number, 0 where there is none, and then the position and the place after it.
-pub struct Place {
-    pub refusal: u8,
-    pub position: u64,
-    pub next: usize,
-}
-
-fn no_place(refusal: u8) -> Place
-    ensures { λ r. ⌜ r ≡ record { refusal = refusal; position = 0; next = 0 } ⌝ }
-{
-    Place {
-        refusal: refusal,
-        position: 0,
-        next: 0,
-    }
-}
-
-// Reads the position that follows the first byte.
-fn read_position(string: &[u8]) -> Place
-    requires { ⌜ 1 ≤ length (now string) ⌝ }
-    ensures { λ r. ⌜ (Checks.positionIs (now (string .entry)) r ≡ Conditions.positionRead (readNumber Checkpoint.mostGroups (drop 1 (now (string .entry))))) × (r .next ≤ length (now (string .entry))) ⌝ }
-{
-    let read = varint::read_number(string, 1, 4);
-    match read {
-        Read::Number { value, next } => Place {
-            refusal: 0,
-            position: value,
-            next: next,
-        },
-        Read::Ended => no_place(9),
-        Read::Malformed => no_place(10),
-    }
-}
-
 // What a checkpoint begins with, once every condition of load but the last holds: its cipher and position, and where its words begin.
 pub struct Beginning {
     pub refusal: u8,
@@ -208,12 +170,12 @@ pub fn load_check(string: &[u8], size: usize) -> Beginning
     if size != n {
         return no_beginning(4);
     }
-    let place = read_position(string);
+    let place = reader::read_position(string);
     let refusal = place.refusal;
     if refusal != 0 {
         return no_beginning(refusal);
     }
-    let position = place.position;
+    let position = place.value;
     if LIMIT < position {
         return no_beginning(5);
     }
@@ -228,4 +190,3 @@ pub fn load_check(string: &[u8], size: usize) -> Beginning
         next: next,
     }
 }
-

@@ -6,7 +6,7 @@ use native.Mathlib.Omega.{arith}
 use lib.Dec.{leb, eqb}
 use lib.ListN.{length}
 use Rattle.word.specs.Bytes.{words}
-use Rattle.varint.specs.Number.{Found, is, ended, malformed, readNumber}
+use Rattle.varint.specs.Number.{Reading, is, ended, malformed, readNumber}
 use Rattle.cipher.specs.Numbers.{byCode, areaLength}
 use Rattle.checkpoint.specs.Checkpoint.{mostGroups}
 use Rattle.setup.specs.SetUp.{Undone, none, found}
@@ -47,7 +47,7 @@ found-not-0 : (u : Undone) → foundOr12 u ≡ refused 0 → ⊥
 found-not-0 none e = other 12 0 (λ z. omega arith) e
 found-not-0 (found k v) e = no-refusal e
 
-position-not-0 : (f : Found) → positionRead f ≡ refused 0 → ⊥
+position-not-0 : (f : Reading) → positionRead f ≡ refused 0 → ⊥
 position-not-0 (is n rest) e = no-refusal e
 position-not-0 ended e = other 9 0 (λ z. omega arith) e
 position-not-0 malformed e = other 10 0 (λ z. omega arith) e

@@ -149,8 +149,8 @@ module _ (first : Outcome Engine) (lent : List ℕ) (r : Done) (s : List ℕ) (e
   written-made h w lent′ q = (
     rw (← e, eq-eqb (r .refusal) 0 h) q,
     counts (w .answer .length) lent′
-    (rw (ap (λ (y : Outcome Calls.Written). y .value .length) q, ap (λ (y : Outcome Calls.Written). y .value .lent) q)
-    (write-counts (r .head) s lent (write (r .head) s lent) refl)),
+        (rw (ap (λ (y : Outcome Calls.Written). y .value .length) q, ap (λ (y : Outcome Calls.Written). y .value .lent) q)
+        (write-counts (r .head) s lent (write (r .head) s lent) refl)),
   )
 
 module _ (h : Head) (string area key iv s : List ℕ) (l : LoadDone) (f : h ≡ freshHead)

@@ -7,8 +7,8 @@ use mathlib.Core.Option.{Option, none, some}
 use Prim.Native.Nat.{ℕ, _+_, _-_, _≤_}
 use lib.Dec.{eqb, ltb}
 use lib.IntN.{ℤ, pos, negsuc, negℤ, _-ℤ_}
-use lib.ListN.{length, take}
-use Rattle.varint.specs.Number.{Found, is, ended, malformed, readNumber}
+use lib.ListN.{length, take, drop}
+use Rattle.varint.specs.Number.{Reading, is, ended, malformed, readNumber}
 use Rattle.cipher.specs.declared.Cipher.{Cipher}
 use Rattle.cipher.specs.declared.Cipher.the-variants.{Hc128, Hc256}
 use Rattle.cipher.specs.Numbers.{codeOf}
@@ -25,14 +25,13 @@ cipherOf [] = Hc256
 cipherOf (b ∷ string) = cond (eqb b (codeOf Hc128)) Hc128 Hc256
 
 -- the position that a checkpoint states: the number after its first byte
-abbrev pub value : Found → Option ℕ
+abbrev pub value : Reading → Option ℕ
 value (is n rest) = some n
 value ended = none
 value malformed = none
 
 unfoldable pub positionIn : List ℕ → Option ℕ
-positionIn [] = none
-positionIn (b ∷ string) = value (readNumber mostGroups string)
+positionIn string = value (readNumber mostGroups (drop 1 string))
 
 -- the bytes from one place of a file to another; the difference of two numbers is 0 where the second is larger
 unfoldable pub span : ℤ → ℤ → ℕ

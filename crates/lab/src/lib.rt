@@ -13,7 +13,6 @@ use engine::Head;
 use engine::answers::Done;
 use engine::answers::WriteAnswer;
 use engine::answers::WriteDone;
-use varint::Read;
 
 // Whether two words are the same.
 pub fn same(a: &[u8], b: &[u8]) -> bool
@@ -125,15 +124,11 @@ pub fn cipher_of(string: &[u8]) -> Cipher
 pub fn position_in(string: &[u8]) -> Number
     ensures { λ r. ⌜ Decimals.numberIs r ≡ Tasks.positionIn (now (string .entry)) ⌝ }
 {
-    if string.len() == 0 {
+    let position = reader::read_position(string);
+    if position.refusal != 0 {
         return Number::Not;
     }
-    let read = varint::read_number(string, 1, 4);
-    match read {
-        Read::Number { value, .. } => Number::Is(value),
-        Read::Ended => Number::Not,
-        Read::Malformed => Number::Not,
-    }
+    Number::Is(position.value)
 }
 
 // The bytes from one place of a file to another, 0 where the second is not after the first or a place is below 0.

@@ -7,7 +7,7 @@ use borrow.Author.Tests.{le-leb, leb-true, eq-eqb, eqb-true}
 use lib.Dec.{leb, eqb}
 use lib.IntN.{ℤ, pos, negsuc, _+ℤ_}
 use lib.ListN.{length}
-use Rattle.varint.specs.Number.{Found, is, ended, malformed, readNumber}
+use Rattle.varint.specs.Number.{Reading, is, ended, malformed, readNumber}
 use Rattle.cipher.specs.declared.Cipher.{Cipher}
 use Rattle.cipher.specs.declared.Cipher.the-variants.{Hc128, Hc256}
 use Rattle.cipher.specs.Numbers.{byCode, codeOf, areaLength, keyLength, ivLength}
@@ -162,12 +162,12 @@ pub found-shows : (u : Undone) (pair : KeyAndIv) → foundOr12 u ≡ accepted pa
 found-shows none pair e = no-refusal (sym e)
 found-shows (found k v) pair e = ap (λ (x : KeyAndIv). found (x .key) (x .iv)) (accepted-one refl e)
 
-placed-shows : (f : Found) (place : PositionRead) → positionRead f ≡ accepted place → f ≡ is (place .position) (place .rest)
+placed-shows : (f : Reading) (place : PositionRead) → positionRead f ≡ accepted place → f ≡ is (place .position) (place .rest)
 placed-shows (is n rest) place e = ap (λ (x : PositionRead). is (x .position) (x .rest)) (accepted-one refl e)
 placed-shows ended place e = no-refusal (sym e)
 placed-shows malformed place e = no-refusal (sym e)
 
-placed-not-12 : (f : Found) → positionRead f ≡ refused 12 → ⊥
+placed-not-12 : (f : Reading) → positionRead f ≡ refused 12 → ⊥
 placed-not-12 (is n rest) e = no-refusal e
 placed-not-12 ended e = let z : _≡_ {A = ℕ} 9 12 = cc in omega arith
 placed-not-12 malformed e = let z : _≡_ {A = ℕ} 10 12 = cc in omega arith
