@@ -1,5 +1,6 @@
 pub mod Inverse
 pub mod Starred
+pub mod Demand1
 pub mod Stream
 pub mod Results
 pub mod Tables

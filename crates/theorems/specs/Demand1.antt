@@ -1,0 +1,52 @@
+-- Demand 1: every call, for all bytes, lengths, positions and tables, is accepted with 0, or answers one of its own refusal numbers and leaves
+-- head, tables and every lent byte as they were.
+use mathlib.Core.Path.{_≡_}
+use mathlib.Core.List.{List, [], _∷_, List·Memᴰ}
+use mathlib.Core.Logic.{_⊎_}
+use Prim.Native.Nat.{ℕ}
+use lib.IntN.{ℤ}
+use lib.ListN.{replicate}
+use Rattle.conditions.specs.Result.{Result, refused, accepted, Outcome}
+use Rattle.engine.specs.declared.Head.{Head}
+use Rattle.engine.specs.Calls.{engineOf, setUp, setUpCall, cipher, cipherCall, move, moveCall, write, writeCall, recover, recoverCall, load, loadCall, spent, spentCall}
+
+module _ {A : Type 0} where
+  -- the call is accepted: its refusal is 0, and what it leaves is what its result gives
+  pub record Accepted (result : Result A) (o : Outcome A) : Type 0 where
+    pub new : A
+    pub result-is : result ≡ accepted new
+    pub outcome-is : o ≡ record { refusal = 0; value = new }
+
+  -- the call is refused: its refusal is one of these numbers, and what it leaves is what was there before it
+  pub record Refused (numbers : List ℕ) (old : A) (result : Result A) (o : Outcome A) : Type 0 where
+    pub number : ℕ
+    pub one-of : List·Memᴰ number numbers
+    pub result-is : result ≡ refused number
+    pub outcome-is : o ≡ record { refusal = number; value = old }
+
+  abbrev pub Answers : (numbers : List ℕ) (old : A) (result : Result A) → Outcome A → Type 0
+  Answers numbers old result o = Accepted result o ⊎ Refused numbers old result o
+
+-- Each call with its refusals in document 01's order. A refused write gives length 0, a refused load sixteen words 0, a refused spent count 0.
+pub record Demand1 : Type 0 where
+  pub of-set-up :
+      (h : Head) (code : ℕ) (key iv area : List ℕ)
+      → Answers (1 ∷ 2 ∷ 3 ∷ 4 ∷ []) (engineOf h area) (setUp code key iv area) (setUpCall h code key iv area)
+  pub of-cipher :
+      (h : Head) (area bytes : List ℕ)
+      → Answers (1 ∷ 4 ∷ 5 ∷ 6 ∷ []) (record { engine = engineOf h area; bytes = bytes }) (cipher h area bytes) (cipherCall h area bytes)
+  pub of-move :
+      (h : Head) (area : List ℕ) (distance : ℤ)
+      → Answers (1 ∷ 4 ∷ 5 ∷ 7 ∷ 6 ∷ []) (engineOf h area) (move h area distance) (moveCall h area distance)
+  pub of-write :
+      (h : Head) (area lent : List ℕ)
+      → Answers (1 ∷ 4 ∷ 5 ∷ 8 ∷ []) (record { engine = engineOf h area; length = 0; lent = lent }) (write h area lent) (writeCall h area lent)
+  pub of-recover :
+      (h : Head) (area key iv : List ℕ)
+      → Answers (1 ∷ 4 ∷ 5 ∷ 2 ∷ 3 ∷ 12 ∷ []) (record { engine = engineOf h area; key = key; iv = iv })
+      (recover h area key iv) (recoverCall h area key iv)
+  pub of-load :
+      (h : Head) (string area : List ℕ)
+      → Answers (9 ∷ 1 ∷ 4 ∷ 10 ∷ 9 ∷ 10 ∷ 5 ∷ 11 ∷ 12 ∷ [])
+      (record { engine = engineOf h area; key = replicate 8 0; iv = replicate 8 0 }) (load string area) (loadCall h string area)
+  pub of-spent : (h : Head) → Answers (1 ∷ 5 ∷ []) (record { head = h; count = 0 }) (spent h) (spentCall h)
