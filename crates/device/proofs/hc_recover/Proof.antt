@@ -4,13 +4,13 @@ use Rattle.device.proofs.Wrapper.{mach, behind, opens-head, answers, cl
 use contract.Running.{givenOf, tables, tablesOf}
 use denote.Struct.Laws as LL
 use Rattle.engine.specs.declared.Head.{Head}
-use Rattle.engine.specs.declared.Done.{Done}
+use Rattle.engine.specs.declared.answers.Done.{Done}
 use Rattle.engine.specs.Calls as Calls
-use Rattle.device.specs.After as After
+use Rattle.engine.specs.Answers as Answers
 use Rattle.engine.proofs.Head as T
 use Rattle.engine.proofs.Head.Laws as T′
-use Rattle.engine.proofs.Done as S
-use Rattle.engine.proofs.Done.Laws as S′
+use Rattle.engine.proofs.answers.Done as S
+use Rattle.engine.proofs.answers.Done.Laws as S′
 use Rattle.engine.proofs.Head.recover as called
 use Rattle.engine.proofs.Head.recover.Symbol as called-def
 use Rattle.engine.proofs.Head.recover.Symbol.{name as #device·recover}
@@ -69,7 +69,7 @@ module _ {M : Type 1} (𝓤 : URA M) (H : Heap 𝓤) (A : Atoms 𝓤) (W : Given
       qed W ((‵ (flft κ1 q1) ⊛ ‵ (flft κ2 q2) ⊛ ‵ (flft κ3 q3) ⊛ ‵ ftrue) ∷ ‵ (owns (ShrSlice (named 1) κ1 u32 ∷ MutSlice (named 2) κ2 u8 ∷ MutSlice (named 3) κ3 u8 ∷ []) (x .1) (at .1)) ∷ []) ∵
       move ! (1 ∷ 0 ∷ []) $ fsplit ! $ move ! (1 ∷ []) $ fsplit ! $ move ! (1 ∷ []) $ fsplit ! $ move ! (1 ∷ []) $ drop ! $ move ! (2 ∷ []) $ use1 W (‵ (ShrSlice (named 1) κ1 u32 .own x1 (s1 ∷ [])) ⊛ ‵ (ShrSlice (named 1) κ1 u32 .own x1 (s1 ∷ []))) (shr-slice-copy 𝓤 H A W (named 1) κ1 u32 .twice x1 (s1 ∷ [])) $ split ! $ nothing ! $ move ! (3 ∷ 0 ∷ []) $ fjoin ! $ move ! (3 ∷ 0 ∷ []) $ fjoin ! $ move ! (1 ∷ 0 ∷ []) $ fjoin ! $ owned ! T.the-row (Is T.the-row) ((LL.makes T.the-type T′.the-plain) 𝓤 H A) h _ is $ fjoin ! $ move ! (2 ∷ 0 ∷ []) $ use2 W (raw (Callee 𝓤 H A at-mem run .pre to-callee)) asked $ move ! (0 ∷ 1 ∷ []) $ frame ! $ done !
 
-  exits : (r : Done) (ws2 : List ℕ) (ws3 : List ℕ) → After.recovered (r .refusal) (r .head) (ws2) (ws3) ≡ Calls.recoverCall h ys1 ys2 ys3 → length ws2 ≡ length ys2 → length ws3 ≡ length ys3 → Is u8 (r .refusal) (vint w8 (r .refusal) ∷ [])
+  exits : (r : Done) (ws2 : List ℕ) (ws3 : List ℕ) → Answers.recovered (r .refusal) (r .head) ys1 (ws2) (ws3) ≡ Calls.recoverCall h ys1 ys2 ys3 → length ws2 ≡ length ys2 → length ws3 ≡ length ys3 → Is u8 (r .refusal) (vint w8 (r .refusal) ∷ [])
       → ent 𝓤 (⋆ 𝓤 H A (‵ (fobs γ (T.the-row .coded .code (r .head))) ∷ ‵ (fbor κ0 (Body (mem (T.the-row)) b o γ)) ∷ ‵ (flft κ0 q0) ∷ (‵ (flft κ1 q1) ⊛ ‵ (flft κ2 q2) ⊛ ‵ (flft κ3 q3) ⊛ ‵ ftrue) ∷ ‵ (finally u8 γ2 ws2) ∷ ‵ (finally u8 γ3 ws3) ∷ ‵ (ShrSlice (named 1) κ1 u32 .own x1 (s1 ∷ [])) ∷ [])) (Post (vint w8 (r .refusal)))
   exits r ws2 ws3 e l2 l3 told-is =
       qed W (‵ (fobs γ (T.the-row .coded .code (r .head))) ∷ ‵ (fbor κ0 (Body (mem (T.the-row)) b o γ)) ∷ ‵ (flft κ0 q0) ∷ (‵ (flft κ1 q1) ⊛ ‵ (flft κ2 q2) ⊛ ‵ (flft κ3 q3) ⊛ ‵ ftrue) ∷ ‵ (finally u8 γ2 ws2) ∷ ‵ (finally u8 γ3 ws3) ∷ ‵ (ShrSlice (named 1) κ1 u32 .own x1 (s1 ∷ [])) ∷ []) ∵
@@ -91,7 +91,7 @@ module _ {M : Type 1} (𝓤 : URA M) (H : Heap 𝓤) (A : Atoms 𝓤) (W : Given
         -- the call
         move ! (5 ∷ 6 ∷ []) $ use2 W (raw (Callee 𝓤 H A at-mem run .pre to-callee) ⊛ ‵ (ShrSlice (named 1) κ1 u32 .own x1 (s1 ∷ []))) (goes-callee is) $ split ! $
         calls-at ! fm (Callee 𝓤 H A at-mem run) known to-callee (and-then ! (load ! (from ! (stop !)) (look ! 15 refl)) (and-then ! (load ! (from ! (stop !)) (look ! 23 refl)) (and-then ! (load ! (from ! (stop !)) (look ! 11 refl)) (and-then ! (load ! (from ! (stop !)) (look ! 7 refl)) (no-more !))))) (λ v.
-        answers ! tt S.the-row (‵ (flft κ1 q1) ⊛ ‵ (flft κ2 q2) ⊛ ‵ (flft κ3 q3) ⊛ ‵ ftrue) v (λ r ws. lasts called.ended (κ1, (κ2, (κ3, tt))) (h, (x1, (x2, (x3, tt)))) ws) (λ (r : Done) (ws : Unit {0} × (Unit {0} × (List ℕ × (List ℕ × Unit {0})))). After.recovered (r .refusal) (r .head) (ws .1 .1 .0) (ws .1 .1 .1 .0) ≡ Calls.recoverCall h ys1 ys2 ys3) (id⊢ 𝓤 _) (λ r ws e is′.
+        answers ! tt S.the-row (‵ (flft κ1 q1) ⊛ ‵ (flft κ2 q2) ⊛ ‵ (flft κ3 q3) ⊛ ‵ ftrue) v (λ r ws. lasts called.ended (κ1, (κ2, (κ3, tt))) (h, (x1, (x2, (x3, tt)))) ws) (λ (r : Done) (ws : Unit {0} × (Unit {0} × (List ℕ × (List ℕ × Unit {0})))). Answers.recovered (r .refusal) (r .head) ys1 (ws .1 .1 .0) (ws .1 .1 .1 .0) ≡ Calls.recoverCall h ys1 ys2 ys3) (id⊢ 𝓤 _) (λ r ws e is′.
         -- the last lists
         fsplit ! $ drop ! $ fsplit ! $ drop ! $ fsplit ! $ fsplit ! $ move ! (1 ∷ []) $ feqL ! (λ e2. move ! (1 ∷ []) $ fsplit ! $ fsplit ! $ move ! (1 ∷ []) $ feqL ! (λ e3. move ! (1 ∷ []) $ drop ! $
         land ! (from ! (stop !)) (init ! 19 refl (LL.lawful S.the-type S′.the-laws 𝓤 H A W .typed r _ is′ .0)) $

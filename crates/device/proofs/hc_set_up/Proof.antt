@@ -4,13 +4,13 @@ use Rattle.device.proofs.Wrapper.{mach, behind, opens-head, answers, cl
 use contract.Running.{givenOf, tables, tablesOf}
 use denote.Struct.Laws as LL
 use Rattle.engine.specs.declared.Head.{Head}
-use Rattle.engine.specs.declared.Done.{Done}
+use Rattle.engine.specs.declared.answers.Done.{Done}
 use Rattle.engine.specs.Calls as Calls
-use Rattle.device.specs.After as After
+use Rattle.engine.specs.Answers as Answers
 use Rattle.engine.proofs.Head as T
 use Rattle.engine.proofs.Head.Laws as T′
-use Rattle.engine.proofs.Done as S
-use Rattle.engine.proofs.Done.Laws as S′
+use Rattle.engine.proofs.answers.Done as S
+use Rattle.engine.proofs.answers.Done.Laws as S′
 use Rattle.engine.proofs.Head.set_up as called
 use Rattle.engine.proofs.Head.set_up.Symbol as called-def
 use Rattle.engine.proofs.Head.set_up.Symbol.{name as #device·set-up}
@@ -69,7 +69,7 @@ module _ {M : Type 1} (𝓤 : URA M) (H : Heap 𝓤) (A : Atoms 𝓤) (W : Given
       qed W ((‵ (flft κ1 q1) ⊛ ‵ (flft κ2 q2) ⊛ ‵ (flft κ3 q3) ⊛ ‵ ftrue) ∷ ‵ (owns (u8 ∷ ShrSlice (named 1) κ1 u8 ∷ ShrSlice (named 2) κ2 u8 ∷ MutSlice (named 3) κ3 u32 ∷ []) (x .1) (at .1)) ∷ []) ∵
       move ! (1 ∷ 0 ∷ []) $ fsplit ! $ move ! (1 ∷ []) $ fsplit ! $ move ! (1 ∷ []) $ fsplit ! $ move ! (1 ∷ []) $ fsplit ! $ move ! (1 ∷ []) $ drop ! $ move ! (3 ∷ []) $ drop ! $ move ! (2 ∷ []) $ use1 W (‵ (ShrSlice (named 1) κ1 u8 .own x2 (s2 ∷ [])) ⊛ ‵ (ShrSlice (named 1) κ1 u8 .own x2 (s2 ∷ []))) (shr-slice-copy 𝓤 H A W (named 1) κ1 u8 .twice x2 (s2 ∷ [])) $ split ! $ move ! (3 ∷ []) $ use1 W (‵ (ShrSlice (named 2) κ2 u8 .own x3 (s3 ∷ [])) ⊛ ‵ (ShrSlice (named 2) κ2 u8 .own x3 (s3 ∷ []))) (shr-slice-copy 𝓤 H A W (named 2) κ2 u8 .twice x3 (s3 ∷ [])) $ split ! $ nothing ! $ move ! (5 ∷ 0 ∷ []) $ fjoin ! $ move ! (1 ∷ 0 ∷ []) $ fjoin ! $ move ! (2 ∷ 0 ∷ []) $ fjoin ! $ owned ! u8 (Is u8) (uint-makes 𝓤 H A W w8) n1 _ (refl, fits1) $ fjoin ! $ owned ! T.the-row (Is T.the-row) ((LL.makes T.the-type T′.the-plain) 𝓤 H A) h _ is $ fjoin ! $ move ! (3 ∷ 0 ∷ []) $ use2 W (raw (Callee 𝓤 H A at-mem run .pre to-callee)) asked $ move ! (0 ∷ 2 ∷ 1 ∷ []) $ frame ! $ frame ! $ done !
 
-  exits : (r : Done) (ws4 : List ℕ) → After.done (r .refusal) (r .head) (ws4) ≡ Calls.setUpCall h n1 ys2 ys3 ys4 → length ws4 ≡ length ys4 → Is u8 (r .refusal) (vint w8 (r .refusal) ∷ [])
+  exits : (r : Done) (ws4 : List ℕ) → Answers.done (r .refusal) (r .head) (ws4) ≡ Calls.setUpCall h n1 ys2 ys3 ys4 → length ws4 ≡ length ys4 → Is u8 (r .refusal) (vint w8 (r .refusal) ∷ [])
       → ent 𝓤 (⋆ 𝓤 H A (‵ (fobs γ (T.the-row .coded .code (r .head))) ∷ ‵ (fbor κ0 (Body (mem (T.the-row)) b o γ)) ∷ ‵ (flft κ0 q0) ∷ (‵ (flft κ1 q1) ⊛ ‵ (flft κ2 q2) ⊛ ‵ (flft κ3 q3) ⊛ ‵ ftrue) ∷ ‵ (finally u32 γ4 ws4) ∷ ‵ (ShrSlice (named 1) κ1 u8 .own x2 (s2 ∷ [])) ∷ ‵ (ShrSlice (named 2) κ2 u8 .own x3 (s3 ∷ [])) ∷ [])) (Post (vint w8 (r .refusal)))
   exits r ws4 e l4 told-is =
       qed W (‵ (fobs γ (T.the-row .coded .code (r .head))) ∷ ‵ (fbor κ0 (Body (mem (T.the-row)) b o γ)) ∷ ‵ (flft κ0 q0) ∷ (‵ (flft κ1 q1) ⊛ ‵ (flft κ2 q2) ⊛ ‵ (flft κ3 q3) ⊛ ‵ ftrue) ∷ ‵ (finally u32 γ4 ws4) ∷ ‵ (ShrSlice (named 1) κ1 u8 .own x2 (s2 ∷ [])) ∷ ‵ (ShrSlice (named 2) κ2 u8 .own x3 (s3 ∷ [])) ∷ []) ∵
@@ -92,7 +92,7 @@ module _ {M : Type 1} (𝓤 : URA M) (H : Heap 𝓤) (A : Atoms 𝓤) (W : Given
         split ! $
         move ! (2 ∷ []) $
         calls-at ! fm (Callee 𝓤 H A at-mem run) known to-callee (and-then ! (load ! (from ! (stop !)) (look ! 12 refl)) (and-then ! (load ! (from ! (stop !)) (look ! 22 refl)) (and-then ! (load ! (from ! (stop !)) (look ! 20 refl)) (and-then ! (load ! (from ! (stop !)) (look ! 18 refl)) (and-then ! (load ! (from ! (stop !)) (look ! 8 refl)) (no-more !)))))) (λ v.
-        answers ! tt S.the-row (‵ (flft κ1 q1) ⊛ ‵ (flft κ2 q2) ⊛ ‵ (flft κ3 q3) ⊛ ‵ ftrue) v (λ r ws. lasts called.ended (κ1, (κ2, (κ3, tt))) (h, (n1, (x2, (x3, (x4, tt))))) ws) (λ (r : Done) (ws : Unit {0} × (Unit {0} × (Unit {0} × (Unit {0} × (List ℕ × Unit {0}))))). After.done (r .refusal) (r .head) (ws .1 .1 .1 .1 .0) ≡ Calls.setUpCall h n1 ys2 ys3 ys4) (id⊢ 𝓤 _) (λ r ws e is′.
+        answers ! tt S.the-row (‵ (flft κ1 q1) ⊛ ‵ (flft κ2 q2) ⊛ ‵ (flft κ3 q3) ⊛ ‵ ftrue) v (λ r ws. lasts called.ended (κ1, (κ2, (κ3, tt))) (h, (n1, (x2, (x3, (x4, tt))))) ws) (λ (r : Done) (ws : Unit {0} × (Unit {0} × (Unit {0} × (Unit {0} × (List ℕ × Unit {0}))))). Answers.done (r .refusal) (r .head) (ws .1 .1 .1 .1 .0) ≡ Calls.setUpCall h n1 ys2 ys3 ys4) (id⊢ 𝓤 _) (λ r ws e is′.
         -- the last lists
         fsplit ! $ drop ! $ fsplit ! $ drop ! $ fsplit ! $ drop ! $ fsplit ! $ drop ! $ fsplit ! $ fsplit ! $ move ! (1 ∷ []) $ feqL ! (λ e4. move ! (1 ∷ []) $ drop ! $
         land ! (from ! (stop !)) (init ! 15 refl (LL.lawful S.the-type S′.the-laws 𝓤 H A W .typed r _ is′ .0)) $
