@@ -72,6 +72,7 @@ pub use denote.Signed.{sint-vals, sint-tells, sint-lawful}
 pub use denote.Builtin.{u8, u32}
 pub use denote.Slice.{slice-vals, mut-slice-tells, shr-slice-tells}
 pub use denote.Steps.{only}
+pub use denote.Triple.Clauses.{atExit}
 pub use denote.Triple.Spec.{tripleOf}
 pub use denote.Triple.Statement.{Triple}
 pub use denote.Triple.Walked.{Walks}
@@ -79,6 +80,12 @@ pub use denote.Triple.Walked.{Walks}
 -- the machine value of a head
 abbrev pub mach : Head → Val
 mach d = LL.val T.the-type T′.the-laws d
+
+-- of a call, its parameters beside the head and the type of what it hands back
+pub record Form (n : ℕ) : Type 2 where
+  pub slots : List (Slot n)
+  pub kept : Kepts slots
+  pub answer : RattleType
 
 -- the parameters after the head
 abbrev pub others : {n : ℕ} → List (Slot n) → List (Slot n)
@@ -122,7 +129,16 @@ module _ {M : Type 1} {𝓤 : URA M} {H : Heap 𝓤} {A : Atoms 𝓤} {K : Type 
       closes t z T.the-row h′ (mach h′ ∷ []) (x .ptr .0) (x .ptr .1) $ s)
 
 -- ---- the engine's call: n lifetimes, the head by value, the parameters ss, and what it hands back, of the type S
-module _ (n : ℕ) (ss : List (Slot n)) (ks : Kepts ss) (S : RattleType) where
+module _ {n : ℕ} (Z : Form n) where
+  abbrev ss : List (Slot n)
+  ss = Z .slots
+
+  abbrev ks : Kepts ss
+  ks = Z .kept
+
+  abbrev S : RattleType
+  S = Z .answer
+
   abbrev pub ByValue : Ended
   ByValue = record { signature = record { lifetimes = n; outlives = []; params = plain (λ _. T.the-row) ∷ ss; result = plain (λ _. S) }; kept = (yes, ks) }
 
@@ -140,46 +156,56 @@ module _ (n : ℕ) (ss : List (Slot n)) (ks : Kepts ss) (S : RattleType) where
 
       pub asks : {K : Type 0} {Γ : List (Item 𝓤)} {C : Calls 𝓤 H} {Λ : Loops 𝓤 H} {E : Locals 𝓤 H} {q : Post 𝓤 H} {d : Place} {f : Name} {os : List Operand} {rest : Code}
           → K → FmC 𝓤 H (W .laws) C → Triple 𝓤 (C f) Callee → Is T.the-row h (mach h ∷ []) → Opds K W (raw (Callee .pre passed) ∷ Γ) E os (Callee .args passed)
-          → ((v : Val) (r : S .Denot) (ws : Lasts ByValue κs (h, xs)) → Is S r (v ∷ []) → Seq K W (raw (toks 𝓤 A n κs qs) ∷ ‵ (lastsOf κs ss ks xs (ws .1)) ∷ raw (c κs (h, xs) .ensures g r (atExit ByValue κs (h, xs) ws)) ∷ Γ) (lands C Λ E d v rest q))
+          → (Q : S .Denot → Lasts ByValue κs (h, xs) → SProp 𝓤) → ((r : S .Denot) (ws : Lasts ByValue κs (h, xs)) → ent 𝓤 (c κs (h, xs) .ensures g r (atExit ByValue κs (h, xs) ws)) (Q r ws))
+          → ((v : Val) (r : S .Denot) (ws : Lasts ByValue κs (h, xs)) → Is S r (v ∷ []) → Seq K W (raw (toks 𝓤 A n κs qs) ∷ ‵ (lastsOf κs ss ks xs (ws .1)) ∷ raw (Q r ws) ∷ Γ) (lands C Λ E d v rest q))
           → Seq K W (raw (toks 𝓤 A n κs qs) ∷ ‵ (owns (typesAt ss κs) xs vss) ∷ Γ) (runs C Λ E (seq (call f os d) rest) q)
-      asks {C = C} {Λ} {E} {q} {d} {rest = rest} t fm known is ops k =
+      asks {C = C} {Λ} {E} {q} {d} {rest = rest} t fm known is ops Q said k =
           use2 W (raw (Callee .pre passed)) (hands is) $ calls-at t fm Callee known passed ops (λ v.
           use1 W (later (some (λ (r : S .Denot). (raw (toks 𝓤 A n κs qs) ⊛ ‵ (S .own r (v ∷ []))) ⊛ some (λ (ws : Lasts ByValue κs (h, xs)). ‵ (lastsOf κs (ByValue .signature .params) (ByValue .kept) (h, xs) ws) ⊛ raw (c κs (h, xs) .ensures g r (atExit ByValue κs (h, xs) ws)))))) (id⊢ 𝓤 _) $ await t tt $ pick t (λ r.
-          split t $ split t $ move t (1 ∷ []) $ peeks t S (Is S) (shows 𝓤 H A S) r (v ∷ []) (λ is′. drop t $ move t (1 ∷ []) $ pick t (λ ws. split t $ fsplit t $ drop t $ move t (2 ∷ 0 ∷ 1 ∷ []) $ k v r ws is′))))
+          split t $ split t $ move t (1 ∷ []) $ peeks t S (Is S) (shows 𝓤 H A S) r (v ∷ []) (λ is′. drop t $ move t (1 ∷ []) $ pick t (λ ws. split t $ move t (1 ∷ []) $ use1 W (raw (Q r ws)) (said r ws) $ move t (1 ∷ []) $ fsplit t $ drop t $ move t (2 ∷ 0 ∷ 1 ∷ []) $ k v r ws is′))))
 
 -- ---- a call on the caller's head: n lifetimes and the parameters ss beside the head's, and an answer of the type R
-module _ (n : ℕ) (ss : List (Slot (suc n))) (ks : Kepts ss) (R : RattleType) where
+module _ {n : ℕ} (Z : Form (suc n)) where
+  abbrev ss′ : List (Slot (suc n))
+  ss′ = Z .slots
+
+  abbrev ks′ : Kepts ss′
+  ks′ = Z .kept
+
+  abbrev R : RattleType
+  R = Z .answer
+
   abbrev pub OnHead : Ended
   OnHead = record {
-    signature = record { lifetimes = suc n; outlives = []; params = mutRefTo (0 ∷ []) tt (plain (λ _. T.the-row)) ∷ ss; result = plain (λ _. R) };
-    kept = (yes, ks);
+    signature = record { lifetimes = suc n; outlives = []; params = mutRefTo (0 ∷ []) tt (plain (λ _. T.the-row)) ∷ ss′; result = plain (λ _. R) };
+    kept = (yes, ks′);
   }
 
   abbrev pub stayed : Stays (OnHead .signature .params) (OnHead .kept)
-  stayed = (stay-ref (0 ∷ []) tt (plain (λ _. T.the-row)), handed ss ks)
+  stayed = (stay-ref (0 ∷ []) tt (plain (λ _. T.the-row)), handed ss′ ks′)
 
   -- what there is at entry, at the machine values vss of the other parameters
-  abbrev pub start : {M : Type 1} (𝓤 : URA M) (A : Atoms 𝓤) (κs : Lfts (suc n)) → Shares (suc n) → RefT Head → Denots (typesAt ss κs) → Valss (typesAt ss κs) → List (Item 𝓤)
-  start 𝓤 A κs qs x xs vss = (‵ (flft (κs .0) (qs .0)) ⊛ raw (toks 𝓤 A n (κs .1) (qs .1))) ∷ ‵ (fsep (MutRef (named 0) (κs .0) T.the-row .own x (ptr-vals x)) (owns (typesAt ss κs) xs vss)) ∷ []
+  abbrev pub start : {M : Type 1} (𝓤 : URA M) (A : Atoms 𝓤) (κs : Lfts (suc n)) → Shares (suc n) → RefT Head → Denots (typesAt ss′ κs) → Valss (typesAt ss′ κs) → List (Item 𝓤)
+  start 𝓤 A κs qs x xs vss = (‵ (flft (κs .0) (qs .0)) ⊛ raw (toks 𝓤 A n (κs .1) (qs .1))) ∷ ‵ (fsep (MutRef (named 0) (κs .0) T.the-row .own x (ptr-vals x)) (owns (typesAt ss′ κs) xs vss)) ∷ []
 
   -- a walk from there, in which the other parameters' machine values are written out and their relations are in hand
   module _ {M : Type 1} (𝓤 : URA M) (H : Heap 𝓤) (A : Atoms 𝓤) (c : Clauses 𝓤 OnHead) (run : Fun 𝓤) where
-    pub walks-from : (sp : (κs : Lfts (suc n)) → Spells (typesAt ss κs)) → ((κs : Lfts (suc n)) → Tellss (typesAt ss κs) (Ises (typesAt ss κs)) (sp κs))
-        → ((κs : Lfts (suc n)) (qs : Shares (suc n)) (x : RefT Head) (xs : Denots (typesAt ss κs)) (g : c κs (x, xs) .ghost) → Are (typesAt ss κs) (Ises (typesAt ss κs)) xs (valss (typesAt ss κs) (sp κs) xs)
-        → ent 𝓤 (⋆ 𝓤 H A (start 𝓤 A κs qs x xs (valss (typesAt ss κs) (sp κs) xs)))
-        (run (vptr (x .ptr .0) (x .ptr .1) ∷ flat (typesAt ss κs) (valss (typesAt ss κs) (sp κs) xs)) (walkOf 𝓤 H A OnHead stayed c .post ((κs, qs, tt, (x, xs), (ptr-vals x, valss (typesAt ss κs) (sp κs) xs)), g))))
+    pub walks-from : (sp : (κs : Lfts (suc n)) → Spells (typesAt ss′ κs)) → ((κs : Lfts (suc n)) → Tellss (typesAt ss′ κs) (Ises (typesAt ss′ κs)) (sp κs))
+        → ((κs : Lfts (suc n)) (qs : Shares (suc n)) (x : RefT Head) (xs : Denots (typesAt ss′ κs)) (g : c κs (x, xs) .ghost) → Are (typesAt ss′ κs) (Ises (typesAt ss′ κs)) xs (valss (typesAt ss′ κs) (sp κs) xs)
+        → ent 𝓤 (⋆ 𝓤 H A (start 𝓤 A κs qs x xs (valss (typesAt ss′ κs) (sp κs) xs)))
+        (run (vptr (x .ptr .0) (x .ptr .1) ∷ flat (typesAt ss′ κs) (valss (typesAt ss′ κs) (sp κs) xs)) (walkOf 𝓤 H A OnHead stayed c .post ((κs, qs, tt, (x, xs), (ptr-vals x, valss (typesAt ss′ κs) (sp κs) xs)), g))))
         → Walks 𝓤 H A OnHead stayed run c
     walks-from sp tells k = walked 𝓤 H A OnHead stayed c run (λ κs. (ptr-vals, sp κs)) (λ κs. (mut-tells (named 0) (κs .0) T.the-row, tells κs)) (λ κs qs bounds a g are. via 𝓤 _ (fst∗ 𝓤 _ (c κs a .requires g)) (k κs qs (a .0) (a .1) g (are .1)))
 
   module _ {M : Type 1} (𝓤 : URA M) (H : Heap 𝓤) (A : Atoms 𝓤) (W : Given 𝓤 H A) (c : Clauses 𝓤 OnHead) where
-    pub ends : (κs : Lfts (suc n)) (qs : Shares (suc n)) (x : RefT Head) (xs : Denots (typesAt ss κs)) (vss : Valss (typesAt ss κs)) (g : c κs (x, xs) .ghost)
-        → Makes 𝓤 H A R (Is R) → (h : Head) (ws : Fins κs ss ks xs) (r : R .Denot) (v : Val) → Is R r (v ∷ [])
-        → ent 𝓤 (⋆ 𝓤 H A (‵ (fobs (x .name) (T.the-row .coded .code h)) ∷ ‵ (fbor (κs .0) (Body (mem T.the-row) (x .ptr .0) (x .ptr .1) (x .name))) ∷ ‵ (flft (κs .0) (qs .0)) ∷ raw (toks 𝓤 A n (κs .1) (qs .1)) ∷ ‵ (lastsOf κs ss ks xs ws) ∷ raw (c κs (x, xs) .ensures g r (atExit OnHead κs (x, xs) (h, ws))) ∷ []))
+    pub ends : (κs : Lfts (suc n)) (qs : Shares (suc n)) (x : RefT Head) (xs : Denots (typesAt ss′ κs)) (vss : Valss (typesAt ss′ κs)) (g : c κs (x, xs) .ghost)
+        → Makes 𝓤 H A R (Is R) → (h : Head) (ws : Fins κs ss′ ks′ xs) (r : R .Denot) (v : Val) → Is R r (v ∷ [])
+        → ent 𝓤 (⋆ 𝓤 H A (‵ (fobs (x .name) (T.the-row .coded .code h)) ∷ ‵ (fbor (κs .0) (Body (mem T.the-row) (x .ptr .0) (x .ptr .1) (x .name))) ∷ ‵ (flft (κs .0) (qs .0)) ∷ raw (toks 𝓤 A n (κs .1) (qs .1)) ∷ ‵ (lastsOf κs ss′ ks′ xs ws) ∷ raw (c κs (x, xs) .ensures g r (atExit OnHead κs (x, xs) (h, ws))) ∷ []))
         (walkOf 𝓤 H A OnHead stayed c .post ((κs, qs, tt, (x, xs), (ptr-vals x, vss)), g) v)
     ends κs qs x xs vss g makes h ws r v is =
-        qed W (‵ (fobs (x .name) (T.the-row .coded .code h)) ∷ ‵ (fbor (κs .0) (Body (mem T.the-row) (x .ptr .0) (x .ptr .1) (x .name))) ∷ ‵ (flft (κs .0) (qs .0)) ∷ raw (toks 𝓤 A n (κs .1) (qs .1)) ∷ ‵ (lastsOf κs ss ks xs ws) ∷ raw (c κs (x, xs) .ensures g r (atExit OnHead κs (x, xs) (h, ws))) ∷ []) ∵
-        suffices ! _ (ends-at 𝓤 H A OnHead stayed c W ((κs, qs, tt, (x, xs), (ptr-vals x, vss)), g) v r (h, ws) (tt, handed-fit κs ss ks xs ws)) $
-        rewrite ! 4 (λ (F : Fml). ‵ F) (handed-has κs ss ks xs ws vss) refl $
+        qed W (‵ (fobs (x .name) (T.the-row .coded .code h)) ∷ ‵ (fbor (κs .0) (Body (mem T.the-row) (x .ptr .0) (x .ptr .1) (x .name))) ∷ ‵ (flft (κs .0) (qs .0)) ∷ raw (toks 𝓤 A n (κs .1) (qs .1)) ∷ ‵ (lastsOf κs ss′ ks′ xs ws) ∷ raw (c κs (x, xs) .ensures g r (atExit OnHead κs (x, xs) (h, ws))) ∷ []) ∵
+        suffices ! _ (ends-at 𝓤 H A OnHead stayed c W ((κs, qs, tt, (x, xs), (ptr-vals x, vss)), g) v r (h, ws) (tt, handed-fit κs ss′ ks′ xs ws)) $
+        rewrite ! 4 (λ (F : Fml). ‵ F) (handed-has κs ss′ ks′ xs ws vss) refl $
         feqI ! (List Val) (vptr (x .ptr .0) (x .ptr .1) ∷ []) (vptr (x .ptr .0) (x .ptr .1) ∷ []) refl $ fjoin3 ! $ move ! (0 ∷ 3 ∷ []) $ fjoin ! $
         owned ! R (Is R) makes r _ is $ move ! (1 ∷ 0 ∷ []) $ join ! $ move ! (1 ∷ 2 ∷ []) $ join ! $ join ! $ frame ! $ done !
 
@@ -192,5 +218,5 @@ module _ (n : ℕ) (ss : List (Slot (suc n))) (ks : Kepts ss) (R : RattleType) w
     proved closed {r} calls met walk =
         let W : Given 𝓤 H (𝓖 .A) = givenOf 𝓤 H 𝓜 𝓖 in
         entered 𝓤 H _ (tables 𝓤 H 𝓜 𝓡 env .C) (tables 𝓤 H 𝓜 𝓡 env .Λ) k e closed
-        (walk-meets 𝓤 H (𝓖 .A) OnHead stayed W (goes-ref 𝓤 H (𝓖 .A) W (suc n) 0 tt (plain (λ _. T.the-row)), handed-go 𝓤 H (𝓖 .A) W ss ks) c (WpFn 𝓤 H (tables 𝓤 H 𝓜 𝓡 env .C) (tables 𝓤 H 𝓜 𝓡 env .Λ) e) (WpFn-mono 𝓤 H (W .laws) (tablesOf 𝓤 H 𝓜 (tables 𝓤 H 𝓜 𝓡 env)) e)
+        (walk-meets 𝓤 H (𝓖 .A) OnHead stayed W (goes-ref 𝓤 H (𝓖 .A) W (suc n) 0 tt (plain (λ _. T.the-row)), handed-go 𝓤 H (𝓖 .A) W ss′ ks′) c (WpFn 𝓤 H (tables 𝓤 H 𝓜 𝓡 env .C) (tables 𝓤 H 𝓜 𝓡 env .Λ) e) (WpFn-mono 𝓤 H (W .laws) (tablesOf 𝓤 H 𝓜 (tables 𝓤 H 𝓜 𝓡 env)) e)
         (walk (tables 𝓤 H 𝓜 𝓡 env .C) (tables 𝓤 H 𝓜 𝓡 env .Λ) (fmOf 𝓤 H (W .laws) (tablesOf 𝓤 H 𝓜 (tables 𝓤 H 𝓜 𝓡 env))) (cited 𝓤 H callee 𝓜 𝓡 env f r calls met)))
