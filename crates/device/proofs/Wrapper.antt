@@ -1,6 +1,6 @@
--- What the walks of the seven calls on the caller's head have in common, whatever their other parameters are. A walk of such a call's MIR opens the
--- borrow of the head, copies the head out, hands it to the engine's call with the other parameters, stores the head that comes back, closes the borrow
--- at it, and returns the answer.
+-- What the walks of the seven calls on the caller's head have in common, whatever their other parameters are. A walk of such a call's MIR opens
+-- the borrow of the head, copies the head out, hands it to the engine's call with the other parameters, stores the head that comes back, closes
+-- the borrow at it, and returns the answer.
 -- Assumes nothing.
 --     OnHead, ByValue    the form of such a call, and that of the engine's call to which it hands all other parameters on
 --     walks-from         at entry: a walk starts at written-out machine values, with what there is then, `start`
