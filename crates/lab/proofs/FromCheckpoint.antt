@@ -12,7 +12,6 @@ use Rattle.laws.proofs.Iterate.{forward-none, forward-first}
 use Rattle.word.specs.Word.{_⊕_}
 use Rattle.word.specs.Bytes.{words}
 use Rattle.word.proofs.Bytes.{length-words}
-use Rattle.word.proofs.Laws.{xor-xor}
 use Rattle.cipher.specs.declared.Cipher.{Cipher}
 use Rattle.cipher.specs.declared.Cipher.the-variants.{Hc128, Hc256}
 use Rattle.cipher.specs.Numbers.{codeOf, areaLength, keyLength, ivLength}
@@ -34,13 +33,14 @@ use Rattle.engine.specs.Head.{freshHead, headAt}
 use Rattle.conditions.specs.Conditions.{undoAt, foundOr12, Contents, setUpCheck, cipherCheck, loadCheck}
 use Rattle.engine.specs.Calls.{Engine, setUp, setUpCall, cipher, cipherCall, move, moveCall, write, writeCall, recover, recoverCall, load, loadCall}
 use Rattle.conditions.proofs.Conditions.{ready-accepted}
-use Rattle.theorems.specs.Account.{Four, IsFour, Checkpoint, tablesOf, checkpointOf}
+use Rattle.theorems.specs.Account.{Four, IsFour, atPosition, Checkpoint, tablesOf, checkpointOf}
 use Rattle.theorems.proofs.Results.{no-refusal, accepted-one, after-line}
 use Rattle.theorems.proofs.Conditions.{accepted-only, load-passed, move-accepted, recover-finds}
 use Rattle.theorems.proofs.Checkpoints.{loadedOf, load-checkpoint}
+use Rattle.theorems.proofs.Twice.{ciphered-twice}
 use Rattle.theorems.proofs.Tables.{moved-area, four-sized, four-moved, undo-finds}
 use Rattle.lab.specs.Tasks.{cipherOf, loadFresh, moveTo, loadAndMove, openCheckpoint, setUpAt, thenWrite, writeAt, rewriteAt, recoverFrom}
-use Rattle.lab.specs.FromCheckpoint.{cipherAfter, streamed, atPosition, checkpointPut, FromCheckpoint}
+use Rattle.lab.specs.FromCheckpoint.{cipherAfter, streamed, checkpointPut, FromCheckpoint}
 use Rattle.lab.proofs.Advance.{load-not-0}
 use Rattle.lab.proofs.Tasks.{ends-at}
 
@@ -137,14 +137,6 @@ as-set-up string area f h z =
     opens string area f h z ∙ sym (set-up-is (f .cipher) (f .key) (f .iv) area (h .is-four .pair) z)
 
 -- ── deciphering ──
-
-ciphered-twice : (c : Cipher) (s : List ℕ) (p : ℕ) (bytes : List ℕ) → ciphered c s p (ciphered c s p bytes) ≡ bytes
-unfolding ciphered
-ciphered-twice c s p [] = refl
-ciphered-twice c s p (b ∷ bytes) =
-    let first = xor-xor b (keyByte c (tablesNext c s p) p) in
-    let rest = ciphered-twice c (tablesNext c s p) (suc p) bytes in
-    cc
 
 -- a cipher call on the bytes that one from the same head and tables left gives them back
 twice : (h : Head) (area bytes : List ℕ) (x : Result Cipher) → cipherCheck (h .code) (h .position) (length area) (length bytes) ≡ x

@@ -10,7 +10,7 @@ use Rattle.conditions.specs.Result.{Outcome}
 use Rattle.conditions.specs.Limit.{limit}
 use Rattle.engine.specs.Head.{freshHead, headAt}
 use Rattle.engine.specs.Calls.{Engine, engineOf, Ciphered, Written, setUpCall, cipherCall, loadCall}
-use Rattle.theorems.specs.Account.{Four, IsFour, Checkpoint, tablesOf, checkpointOf}
+use Rattle.theorems.specs.Account.{Four, IsFour, atPosition, Checkpoint, engineOfFour, checkpointOf}
 use Rattle.lab.specs.Tasks.{cipherOf, openCheckpoint, writeAt, rewriteAt, recoverFrom}
 
 -- what a cipher call on what is left of another call leaves
@@ -23,17 +23,13 @@ streamed e [] = []
 streamed e (part ∷ parts) =
     cipherCall (e .head) (e .area) part .value .bytes ++ streamed (cipherCall (e .head) (e .area) part .value .engine) parts
 
--- the same cipher, key and IV at another position
-abbrev pub atPosition : Four → ℕ → Four
-atPosition f position = record { cipher = f .cipher; key = f .key; iv = f .iv; position = position }
-
 -- the engine of a four, and lent bytes that begin with its checkpoint; later bytes stay
 abbrev pub checkpointPut : Four → List ℕ → Outcome Written
 checkpointPut f lent =
     record {
       refusal = 0;
       value = record {
-        engine = engineOf (headAt (codeOf (f .cipher)) (f .position)) (tablesOf f);
+        engine = engineOfFour f;
         length = length (checkpointOf f);
         lent = checkpointOf f ++ drop (length (checkpointOf f)) lent;
       };
@@ -75,7 +71,7 @@ pub record FromCheckpoint : Type 0 where
       ≡ record {
         refusal = 0;
         value = record {
-          engine = engineOf (headAt (codeOf (f .cipher)) (f .position)) (tablesOf f);
+          engine = engineOfFour f;
           key = f .key;
           iv = f .iv;
         };

@@ -30,14 +30,14 @@ use Rattle.theorems.proofs.Checkpoints.{fourOf, load-shows}
 abbrev pub headOf : Account → Head
 headOf a = headAt (accountCode a) (accountPosition a)
 
--- an account's tables; an empty account asks nothing of the area
-abbrev pub TablesAre : Account → List ℕ → Type 0
-TablesAre empty s = Unit {0}
-TablesAre (holds f) s = IsFour f × (s ≡ tablesOf f)
+-- an account's tables; while it is empty the area is what it was at first
+abbrev pub TablesAre : List ℕ → Account → List ℕ → Type 0
+TablesAre start empty s = s ≡ start
+TablesAre start (holds f) s = IsFour f × (s ≡ tablesOf f)
 
-pub record Agrees (size : ℕ) (a : Account) (e : Engine) : Type 0 where
+pub record Agrees (start : List ℕ) (size : ℕ) (a : Account) (e : Engine) : Type 0 where
   pub head-is : e .head ≡ headOf a
-  pub tables-are : TablesAre a (e .area)
+  pub tables-are : TablesAre start a (e .area)
   pub sized : length (e .area) ≡ size
 
 -- what holds before a call, and after it where it is accepted, holds after it
@@ -76,97 +76,99 @@ spent-head h =
 abbrev engineAt : Account → List ℕ → Engine
 engineAt a s = record { head = headOf a; area = s }
 
-same : (a : Account) (s : List ℕ) → TablesAre a s → Agrees (length s) a (engineAt a s)
-same a s t = record { head-is = refl; tables-are = t; sized = refl }
+-- `start` is the area that the list begins with
+module _ (start : List ℕ) where
+  same : (a : Account) (s : List ℕ) → TablesAre start a s → Agrees start (length s) a (engineAt a s)
+  same a s t = record { head-is = refl; tables-are = t; sized = refl }
 
--- an area that has become the tables of a four
-tables-agree : (f : Four) (s : List ℕ) (size : ℕ) → IsFour f → s ≡ tablesOf f → size ≡ areaLength (f .cipher)
-    → Agrees size (holds f) (engineAt (holds f) s)
-tables-agree f s size h e z = record {
-  head-is = refl;
-  tables-are = (h, e);
-  sized = four-sized f s h e ∙ sym z;
-}
+  -- an area that has become the tables of a four
+  tables-agree : (f : Four) (s : List ℕ) (size : ℕ) → IsFour f → s ≡ tablesOf f → size ≡ areaLength (f .cipher)
+      → Agrees start size (holds f) (engineAt (holds f) s)
+  tables-agree f s size h e z = record {
+    head-is = refl;
+    tables-are = (h, e);
+    sized = four-sized f s h e ∙ sym z;
+  }
 
-set-up-agrees : (code : ℕ) (key iv s : List ℕ) (c : Cipher) → AllBytes key → AllBytes iv
-    → setUpCheck code (length key) (length iv) (length s) ≡ accepted c
-    → Agrees (length s)
-    (holds (record { cipher = c; key = key; iv = iv; position = 0 }))
-    (record { head = headAt code 0; area = SetUp.setUp c key iv })
-unfolding tablesOf
-set-up-agrees code key iv s c kb vb e =
-    let r = set-up-shows code (length key) (length iv) (length s) c e in
-    let pair : Pair c key iv = record { key-long = r .key-long; iv-long = r .iv-long; key-bytes = kb; iv-bytes = vb } in
-    rw (r .code-is)
-    (tables-agree (record { cipher = c; key = key; iv = iv; position = 0 }) _ (length s)
-    (record { pair = pair; within = omega arith })
-    (sym (forward-none (step c) _ 0))
-    (r .sized))
+  set-up-agrees : (code : ℕ) (key iv s : List ℕ) (c : Cipher) → AllBytes key → AllBytes iv
+      → setUpCheck code (length key) (length iv) (length s) ≡ accepted c
+      → Agrees start (length s)
+      (holds (record { cipher = c; key = key; iv = iv; position = 0 }))
+      (record { head = headAt code 0; area = SetUp.setUp c key iv })
+  unfolding tablesOf
+  set-up-agrees code key iv s c kb vb e =
+      let r = set-up-shows code (length key) (length iv) (length s) c e in
+      let pair : Pair c key iv = record { key-long = r .key-long; iv-long = r .iv-long; key-bytes = kb; iv-bytes = vb } in
+      rw (r .code-is)
+      (tables-agree (record { cipher = c; key = key; iv = iv; position = 0 }) _ (length s)
+      (record { pair = pair; within = omega arith })
+      (sym (forward-none (step c) _ 0))
+      (r .sized))
 
--- an area that cipher or move brings to position q
-moved-agrees : (a : Account) (s : List ℕ) (c : Cipher) (q : ℕ) → TablesAre a s
-    → ReadyShows (accountCode a) (accountPosition a) (length s) c → q ≤ limit
-    → Agrees (length s) (at a q) (record { head = headAt (accountCode a) q; area = moved c s (accountPosition a) q })
-moved-agrees empty s c q t r l = absurd (no-code-0 c (r .code-is))
-moved-agrees (holds f) s c q t r l =
-    let d : c ≡ f .cipher = sym (same-code (f .cipher) c (r .code-is)) in
-    let h : IsFour f = t .0 in
-    tables-agree (record { cipher = f .cipher; key = f .key; iv = f .iv; position = q }) _ (length s)
-    (record { pair = h .pair; within = l })
-    (rw (d, t .1) (four-moved f q h))
-    (r .sized ∙ ap areaLength d)
+  -- an area that cipher or move brings to position q
+  moved-agrees : (a : Account) (s : List ℕ) (c : Cipher) (q : ℕ) → TablesAre start a s
+      → ReadyShows (accountCode a) (accountPosition a) (length s) c → q ≤ limit
+      → Agrees start (length s) (at a q) (record { head = headAt (accountCode a) q; area = moved c s (accountPosition a) q })
+  moved-agrees empty s c q t r l = absurd (no-code-0 c (r .code-is))
+  moved-agrees (holds f) s c q t r l =
+      let d : c ≡ f .cipher = sym (same-code (f .cipher) c (r .code-is)) in
+      let h : IsFour f = t .0 in
+      tables-agree (record { cipher = f .cipher; key = f .key; iv = f .iv; position = q }) _ (length s)
+      (record { pair = h .pair; within = l })
+      (rw (d, t .1) (four-moved f q h))
+      (r .sized ∙ ap areaLength d)
 
-load-agrees : (string s : List ℕ) (l : Contents) → AllBytes string → loadCheck string (length s) ≡ accepted l
-    → Agrees (length s) (holds (fourOf l)) (record { head = headAt (codeOf (l .cipher)) (l .position); area = l .area })
-load-agrees string s l all e =
-    let r = load-shows string (length s) l all e in
-    tables-agree (fourOf l) (l .area) (length s) (r .checkpoint .is-four) (r .area-is) (r .sized)
+  load-agrees : (string s : List ℕ) (l : Contents) → AllBytes string → loadCheck string (length s) ≡ accepted l
+      → Agrees start (length s) (holds (fourOf l)) (record { head = headAt (codeOf (l .cipher)) (l .position); area = l .area })
+  load-agrees string s l all e =
+      let r = load-shows string (length s) l all e in
+      tables-agree (fourOf l) (l .area) (length s) (r .checkpoint .is-four) (r .area-is) (r .sized)
 
-agree-at : (call : Call) (a : Account) (s : List ℕ) → Given call → TablesAre a s
-    → Agrees (length s) (feed (length s) a call) (called (engineAt a s) call)
-unfolding feed called setUpCall setUp cipherCall cipher moveCall move loadCall load
-agree-at (call-set-up code key iv) a s g t =
-    by-answer (Agrees (length s)) a _ _ _ (λ (e : Engine). e) (setUpCheck code (length key) (length iv) (length s)) (same a s t) λ c e.
-    set-up-agrees code key iv s c (g .0) (g .1) e
-agree-at (call-cipher bytes) a s g t =
-    let code = accountCode a in
-    let position = accountPosition a in
-    by-answer (Agrees (length s)) a _ _ _ (λ (r : Ciphered). r .engine) (cipherCheck code position (length s) (length bytes)) (same a s t) λ c e.
-    let r = cipher-shows code position (length s) (length bytes) c e in
-    moved-agrees a s c _ t (r .0) (r .1)
-agree-at (call-move distance) a s g t =
-    let code = accountCode a in
-    let position = accountPosition a in
-    by-answer (Agrees (length s)) a _ _ _ (λ (e : Engine). e) (moveCheck code position (length s) distance) (same a s t) λ m e.
-    let r = move-shows code position (length s) distance m e in
-    moved-agrees a s (m .cipher) (m .end) t (r .is-ready) (r .end-within)
-agree-at (call-load string) a s g t =
-    by-answer (Agrees (length s)) a _ _ _ (λ (o : Loaded). o .engine) (loadCheck string (length s)) (same a s t) λ l e.
-    load-agrees string s l g e
-agree-at (call-write lent) a s g t = rw (write-engine (headOf a) s lent) (same a s t)
-agree-at (call-recover key iv) a s g t = rw (recover-engine (headOf a) s key iv) (same a s t)
-agree-at call-spent a s g t = rw (spent-head (headOf a)) (same a s t)
+  agree-at : (call : Call) (a : Account) (s : List ℕ) → Given call → TablesAre start a s
+      → Agrees start (length s) (feed (length s) a call) (called (engineAt a s) call)
+  unfolding feed called setUpCall setUp cipherCall cipher moveCall move loadCall load
+  agree-at (call-set-up code key iv) a s g t =
+      by-answer (Agrees start (length s)) a _ _ _ (λ (e : Engine). e) (setUpCheck code (length key) (length iv) (length s)) (same a s t) λ c e.
+      set-up-agrees code key iv s c (g .0) (g .1) e
+  agree-at (call-cipher bytes) a s g t =
+      let code = accountCode a in
+      let position = accountPosition a in
+      by-answer (Agrees start (length s)) a _ _ _ (λ (r : Ciphered). r .engine) (cipherCheck code position (length s) (length bytes)) (same a s t) λ c e.
+      let r = cipher-shows code position (length s) (length bytes) c e in
+      moved-agrees a s c _ t (r .0) (r .1)
+  agree-at (call-move distance) a s g t =
+      let code = accountCode a in
+      let position = accountPosition a in
+      by-answer (Agrees start (length s)) a _ _ _ (λ (e : Engine). e) (moveCheck code position (length s) distance) (same a s t) λ m e.
+      let r = move-shows code position (length s) distance m e in
+      moved-agrees a s (m .cipher) (m .end) t (r .is-ready) (r .end-within)
+  agree-at (call-load string) a s g t =
+      by-answer (Agrees start (length s)) a _ _ _ (λ (o : Loaded). o .engine) (loadCheck string (length s)) (same a s t) λ l e.
+      load-agrees string s l g e
+  agree-at (call-write lent) a s g t = rw (write-engine (headOf a) s lent) (same a s t)
+  agree-at (call-recover key iv) a s g t = rw (recover-engine (headOf a) s key iv) (same a s t)
+  agree-at call-spent a s g t = rw (spent-head (headOf a)) (same a s t)
 
-agree-call : (call : Call) (size : ℕ) (a : Account) (e : Engine) → Given call → Agrees size a e
-    → Agrees size (feed size a call) (called e call)
-agree-call call size a e g h =
-    subst₂
-    (λ (n : ℕ) (x : Head). Agrees n (feed n a call) (called (record { head = x; area = e .area }) call))
-    (h .sized)
-    (sym (h .head-is))
-    (agree-at call a (e .area) g (h .tables-are))
+  agree-call : (call : Call) (size : ℕ) (a : Account) (e : Engine) → Given call → Agrees start size a e
+      → Agrees start size (feed size a call) (called e call)
+  agree-call call size a e g h =
+      subst₂
+      (λ (n : ℕ) (x : Head). Agrees start n (feed n a call) (called (record { head = x; area = e .area }) call))
+      (h .sized)
+      (sym (h .head-is))
+      (agree-at call a (e .area) g (h .tables-are))
 
-agree-run : (calls : List Call) (size : ℕ) (a : Account) (e : Engine) → AllGiven calls → Agrees size a e
-    → Agrees size (account size calls a) (run calls e)
-unfolding account run
-agree-run [] size a e g h = h
-agree-run (call ∷ calls) size a e g h =
-    agree-run calls size (feed size a call) (called e call) (g .1) (agree-call call size a e (g .0) h)
+  agree-run : (calls : List Call) (size : ℕ) (a : Account) (e : Engine) → AllGiven calls → Agrees start size a e
+      → Agrees start size (account size calls a) (run calls e)
+  unfolding account run
+  agree-run [] size a e g h = h
+  agree-run (call ∷ calls) size a e g h =
+      agree-run calls size (feed size a call) (called e call) (g .1) (agree-call call size a e (g .0) h)
 
 pub agree : (calls : List Call) → AllGiven calls → (area : List ℕ)
-    → Agrees (length area) (accountAfter calls area) (engineAfter calls area)
-agree calls g area = agree-run calls (length area) empty _ g (record { head-is = refl; tables-are = tt; sized = refl })
+    → Agrees area (length area) (accountAfter calls area) (engineAfter calls area)
+agree calls g area = agree-run area calls (length area) empty _ g (record { head-is = refl; tables-are = refl; sized = refl })
 
 pub agree-four : (calls : List Call) → AllGiven calls → (area : List ℕ) (f : Four) → accountAfter calls area ≡ holds f
-    → Agrees (length area) (holds f) (engineAfter calls area)
+    → Agrees area (length area) (holds f) (engineAfter calls area)
 agree-four calls g area f e = rw e at (agree calls g area)

@@ -4,6 +4,7 @@ use mathlib.Core.Path.{_≡_, refl, sym, ap, ap₂, _∙_, subst}
 use mathlib.Core.List.{List}
 use Prim.Native.Nat.{ℕ, _+_, _≤_, _<_}
 use borrow.Author.Tests.{le-leb}
+use lib.Dec.{leb}
 use lib.IntN.{ℤ, pos, negℤ, _+ℤ_, +ℤ-negℤ-cancel}
 use lib.ListN.{length, getD}
 use Rattle.word.specs.Word.{_⊕_}
@@ -21,15 +22,16 @@ use Rattle.engine.specs.declared.Head.{Head}
 use Rattle.conditions.specs.Result.{accepted}
 use Rattle.conditions.specs.Limit.{limit}
 use Rattle.engine.specs.Head.{headAt}
-use Rattle.conditions.specs.Conditions.{cipherCheck, moveCheck}
+use Rattle.conditions.specs.Conditions.{ready, cipherCheck, endOf, moveCheck}
 use Rattle.engine.specs.Calls.{Engine, engineOf, Ciphered, cipher, move, recover}
 use Rattle.conditions.proofs.Conditions.{ready-accepted}
-use Rattle.theorems.specs.Account.{Four, IsFour, holds, tablesOf}
+use Rattle.theorems.specs.Account.{Four, IsFour, atPosition, holds, tablesOf, engineOfFour}
 use Rattle.theorems.specs.Demand2.{Demand2}
-use Rattle.theorems.proofs.Results.{no-refusal, accepted-one, after-line}
-use Rattle.theorems.proofs.Tables.{moved-area, moved-undone, undo-finds, four-sized}
+use Rattle.theorems.proofs.Results.{no-refusal, accepted-one, after-line, after-unless}
+use Rattle.theorems.proofs.Tables.{moved-area, moved-undone, undo-finds, four-sized, four-moved}
+use Rattle.theorems.proofs.Twice.{ciphered-twice}
 use Rattle.theorems.proofs.Conditions.{same-code, cipher-shows, move-shows, move-accepted, recover-finds}
-use Rattle.theorems.proofs.Agree.{headOf, agree-four}
+use Rattle.theorems.proofs.Agree.{headOf, agree, agree-four}
 
 -- ── from the head and the tables of a four ──
 
@@ -41,10 +43,23 @@ four-cipherable f area bytes h t l =
     let r = ready-accepted (codeOf c) (f .position) (length area) c (code-of c) (four-sized f area h t) (h .within) in
     rw (r, le-leb (f .position + length bytes) limit l) (_, refl)
 
-four-movable : (f : Four) (area : List ℕ) (d : ℤ) (end : ℕ) → IsFour f → area ≡ tablesOf f → pos (f .position) +ℤ d ≡ pos end → end ≤ limit
-    → (e : Engine) × (move (headOf (holds f)) area d ≡ accepted e)
+four-movable : (f : Four) (d : ℤ) (end : ℕ) → IsFour f → pos (f .position) +ℤ d ≡ pos end → end ≤ limit
+    → move (headOf (holds f)) (tablesOf f) d ≡ accepted (engineOfFour (atPosition f end))
 unfolding move
-four-movable f area d end h t e l = rw (move-accepted (f .cipher) (f .position) (length area) d end (four-sized f area h t) (h .within) e l) (_, refl)
+four-movable f d end h e l =
+    rw (
+      move-accepted (f .cipher) (f .position) (length (tablesOf f)) d end (four-sized f (tablesOf f) h refl) (h .within) e l,
+      four-moved f end h,
+    )
+
+-- the end of a move that is accepted
+four-moved-to : (f : Four) (d : ℤ) (e : Engine) → IsFour f → move (headOf (holds f)) (tablesOf f) d ≡ accepted e
+    → (end : ℕ) × (pos (f .position) +ℤ d ≡ pos end) × (end ≤ limit) × (e ≡ engineOfFour (atPosition f end))
+unfolding move
+four-moved-to f d e h q =
+    after-line (moveCheck (codeOf (f .cipher)) (f .position) (length (tablesOf f)) d) _ q (λ _. no-refusal) λ m e₁ r₁.
+    let a = move-shows (codeOf (f .cipher)) (f .position) (length (tablesOf f)) d m e₁ in
+    (m .end, a .end-is, a .end-within, accepted-one q (four-movable f d (m .end) h (a .end-is) (a .end-within)))
 
 four-enciphered : (f : Four) (area bytes : List ℕ) (r : Ciphered) → area ≡ tablesOf f
     → cipher (headOf (holds f)) area bytes ≡ accepted r → (i : ℕ) → i < length bytes
@@ -80,7 +95,7 @@ as-long h area bytes r e =
 
 module _ (c : Cipher) (p q : ℕ) (s : List ℕ) (d : ℤ) (area : Area c s) (p-within : p ≤ limit) (q-within : q ≤ limit) where
   back-accepted : pos p +ℤ d ≡ pos q
-      → move (headAt (codeOf c) q) (moved c s p q) (negℤ d) ≡ accepted (record { head = headAt (codeOf c) p; area = s })
+      → move (headAt (codeOf c) q) (moved c s p q) (negℤ d) ≡ accepted (engineOf (headAt (codeOf c) p) s)
   unfolding move
   back-accepted e =
       let back : pos q +ℤ negℤ d ≡ pos p = ap (λ (x : ℤ). x +ℤ negℤ d) (sym e) ∙ +ℤ-negℤ-cancel (pos p) d in
@@ -88,7 +103,7 @@ module _ (c : Cipher) (p q : ℕ) (s : List ℕ) (d : ℤ) (area : Area c s) (p-
 
 -- where a move is accepted, so is the move back, and it restores head and tables
 move-undone : (h : Head) (area : List ℕ) (d : ℤ) (there : Engine) → AllWords area → move h area d ≡ accepted there
-    → move (there .head) (there .area) (negℤ d) ≡ accepted (record { head = h; area = area })
+    → move (there .head) (there .area) (negℤ d) ≡ accepted (engineOf h area)
 unfolding move
 move-undone h area d there all e =
     after-line (moveCheck (h .code) (h .position) (length area) d) _ e (λ _. no-refusal) λ m e₁ r₁.
@@ -99,21 +114,47 @@ move-undone h area d there all e =
     let q = m .end in
     let s : Area c area = record { sized = r .sized; words = all } in
     subst
-    (λ (x : Engine). move (x .head) (x .area) (negℤ d) ≡ accepted (record { head = h; area = area }))
+    (λ (x : Engine). move (x .head) (x .area) (negℤ d) ≡ accepted (engineOf h area))
     (accepted-one refl r₁)
     (subst
-    (λ (n : ℕ). move (headAt n q) (moved c area p q) (negℤ d) ≡ accepted (record { head = headAt n p; area = area }))
+    (λ (n : ℕ). move (headAt n q) (moved c area p q) (negℤ d) ≡ accepted (engineOf (headAt n p) area))
     (sym (r .code-is))
     (back-accepted c p q area d s (r .within-limit) (a .end-within) (a .end-is)))
 
+-- what a cipher call leaves is what the move by the number of its bytes leaves, and from the same head it gives the bytes back
+module _ (h : Head) (area bytes : List ℕ) (r : Ciphered) (e : cipher h area bytes ≡ accepted r) where
+  as-moved : move h area (pos (length bytes)) ≡ accepted (r .engine)
+  unfolding cipher cipherCheck move moveCheck endOf
+  as-moved =
+      after-line (cipherCheck (h .code) (h .position) (length area) (length bytes)) _ e (λ _. no-refusal) λ c e₁ r₁.
+      after-line (ready (h .code) (h .position) (length area)) _ e₁ (λ _. no-refusal) λ d e₂ r₂.
+      after-unless 6 (leb (h .position + length bytes) limit) _ r₂ no-refusal λ e₃ r₃.
+      rw (e₂, e₃, accepted-one refl r₃) (ap (λ (x : Ciphered). accepted (x .engine)) (accepted-one refl r₁))
+
+  given-back : cipher h area (r .bytes) ≡ accepted (record { engine = r .engine; bytes = bytes })
+  unfolding cipher
+  given-back =
+      after-line (cipherCheck (h .code) (h .position) (length area) (length bytes)) _ e (λ _. no-refusal) λ c e₁ r₁.
+      subst (λ (x : Ciphered). cipher h area (x .bytes) ≡ accepted (record { engine = x .engine; bytes = bytes })) (accepted-one refl r₁)
+      (rw (length-ciphered c area (h .position) bytes, e₁, ciphered-twice c area (h .position) bytes))
+
 pub demand2 : Demand2
 demand2 = record {
+  state = λ calls g area f e.
+      let h = agree-four calls g area f e in
+      λ i. record { head = h .head-is i; area = h .tables-are .1 i };
+  untouched = λ calls g area e.
+      let h = rw e at (agree calls g area) in
+      λ i. record { head = h .head-is i; area = h .tables-are i };
   cipherable = λ calls g area bytes f e l.
       let h = agree-four calls g area f e in
       rw (h .head-is) (four-cipherable f _ bytes (h .tables-are .0) (h .tables-are .1) l);
   movable = λ calls g area d f end e q l.
       let h = agree-four calls g area f e in
-      rw (h .head-is) (four-movable f _ d end (h .tables-are .0) (h .tables-are .1) q l);
+      rw (h .head-is, h .tables-are .1) (four-movable f d end (h .tables-are .0) q l);
+  moved = λ calls g area d f there e q.
+      let h = agree-four calls g area f e in
+      four-moved-to f d there (h .tables-are .0) (rw (h .head-is, h .tables-are .1) at q);
   enciphered = λ calls g area bytes f e r q.
       let h = agree-four calls g area f e in
       four-enciphered f _ bytes r (h .tables-are .1) (rw (h .head-is) at q);
@@ -122,4 +163,8 @@ demand2 = record {
       rw (h .head-is) (four-recovered f _ key iv (h .tables-are .0) (h .tables-are .1) kn vn);
   as-long = as-long;
   moved-back = move-undone;
+  ciphered-back = λ h area bytes r all e. (
+    move-undone h area (pos (length bytes)) (r .engine) all (as-moved h area bytes r e),
+    given-back h area bytes r e,
+  );
 }

@@ -71,13 +71,13 @@ abbrev GivesCheckpoint : Account → Written → Type 0
 GivesCheckpoint a w = (f : Four) × (a ≡ holds f) × Checkpoint (given w) f
 
 -- a write from an account's head and tables
-write-gives : (a : Account) (area lent : List ℕ) (w : Written) → TablesAre a area
+write-gives : (start : List ℕ) (a : Account) (area lent : List ℕ) (w : Written) → TablesAre start a area
     → write (headOf a) area lent ≡ accepted w → GivesCheckpoint a w
 unfolding checkpointOf
-write-gives empty area lent w t e =
+write-gives start empty area lent w t e =
     let (c, s) = write-shows (headOf empty) area lent w e in
     absurd (no-code-0 c (s .is-ready .code-is))
-write-gives (holds f) area lent w t e =
+write-gives start (holds f) area lent w t e =
     let s = four-write-shows f area lent w e in
     (f, refl, record { is-four = t .0; string-is = s .string ∙ ap (layout (f .cipher) (f .position)) (t .1) })
 
@@ -86,7 +86,7 @@ written :
     → writeAfter calls area lent ≡ accepted w → GivesCheckpoint (accountAfter calls area) w
 written calls g area lent w e =
     let h = agree calls g area in
-    write-gives (accountAfter calls area) (engineAfter calls area .area) lent w (h .tables-are) (rw (h .head-is) at e)
+    write-gives area (accountAfter calls area) (engineAfter calls area .area) lent w (h .tables-are) (rw (h .head-is) at e)
 
 fits :
     (calls : List Call) → AllGiven calls → (area lent : List ℕ) (f : Four) (w : Written)

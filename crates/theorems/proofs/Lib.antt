@@ -4,6 +4,7 @@ pub mod Demand1
 pub mod Stream
 pub mod Results
 pub mod Tables
+pub mod Twice
 pub mod Zeros
 pub mod Conditions
 pub mod Checkpoints

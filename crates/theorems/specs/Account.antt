@@ -12,7 +12,7 @@ use Rattle.keystream.specs.Steps.{steps, stepsAt}
 use Rattle.setup.specs.SetUp as SetUp
 use Rattle.conditions.specs.Result.{Result, refused, accepted}
 use Rattle.conditions.specs.Limit.{limit}
-use Rattle.engine.specs.Head.{freshHead}
+use Rattle.engine.specs.Head.{freshHead, headAt}
 use Rattle.conditions.specs.Conditions.{setUpCheck, cipherCheck, moveCheck, loadCheck}
 use Rattle.engine.specs.Calls.{Engine, engineOf, setUpCall, cipherCall, moveCall, writeCall, recoverCall, loadCall, spentCall}
 use Rattle.checkpoint.specs.Checkpoint.{layout}
@@ -85,9 +85,13 @@ abbrev pub accountPosition : Account → ℕ
 accountPosition empty = 0
 accountPosition (holds f) = f .position
 
+-- the same cipher, key and IV at another position
+abbrev pub atPosition : Four → ℕ → Four
+atPosition f position = record { cipher = f .cipher; key = f .key; iv = f .iv; position = position }
+
 abbrev pub at : Account → ℕ → Account
 at empty p = empty
-at (holds f) p = holds (record { cipher = f .cipher; key = f .key; iv = f .iv; position = p })
+at (holds f) p = holds (atPosition f p)
 
 -- 'a call that they refuse leaves the account'
 abbrev pub unless-refused : {A : Type 0} → Account → Result A → (A → Account) → Account
@@ -127,6 +131,10 @@ accountAfter calls area = account (length area) calls empty
 -- 'the tables that set-up with its key and IV, then the steps of that position, give'
 unfoldable pub tablesOf : Four → List ℕ
 tablesOf f = steps (f .cipher) (SetUp.setUp (f .cipher) (f .key) (f .iv)) 0 (stepsAt (f .position))
+
+-- the head of that code and position, and those tables
+abbrev pub engineOfFour : Four → Engine
+engineOfFour f = engineOf (headAt (codeOf (f .cipher)) (f .position)) (tablesOf f)
 
 unfoldable pub checkpointOf : Four → List ℕ
 checkpointOf f = layout (f .cipher) (f .position) (tablesOf f)

@@ -1,5 +1,5 @@
--- Demand 2, said of the calls: after any list of calls ciphering is with the keystream of the account's key and IV, recover gives that key and
--- IV, and a move and the move back restore the tables.
+-- Demand 2, said of the calls: after any list of calls head and tables are those of the account's cipher, key, IV and position, ciphering is with
+-- the keystream of that key and IV, recover gives them, and what goes back restores the state that held there.
 use mathlib.Core.Path.{_≡_}
 use mathlib.Core.List.{List}
 use Prim.Native.Nat.{ℕ, _+_, _≤_, _<_}
@@ -13,19 +13,34 @@ use Rattle.setup.specs.SetUp as SetUp
 use Rattle.engine.specs.declared.Head.{Head}
 use Rattle.conditions.specs.Result.{accepted}
 use Rattle.conditions.specs.Limit.{limit}
-use Rattle.engine.specs.Calls.{Engine, Ciphered, cipher, move, recover}
-use Rattle.theorems.specs.Account.{Call, AllGiven, Four, holds, engineAfter, accountAfter}
+use Rattle.engine.specs.Head.{freshHead}
+use Rattle.engine.specs.Calls.{Engine, engineOf, Ciphered, cipher, move, recover}
+use Rattle.theorems.specs.Account.{Call, AllGiven, Four, atPosition, empty, holds, engineAfter, accountAfter, engineOfFour}
 
 pub record Demand2 : Type 0 where
-  -- A cipher call that ends within the limit is accepted whenever the account is a four, and so is a move.
+  -- After every list whose account is a four, the head has that code and position and the tables are those of the four; where the account is empty,
+  -- head and area are what they were at first.
+  pub state :
+      (calls : List Call) → AllGiven calls → (area : List ℕ) (f : Four) → accountAfter calls area ≡ holds f
+      → engineAfter calls area ≡ engineOfFour f
+  pub untouched :
+      (calls : List Call) → AllGiven calls → (area : List ℕ) → accountAfter calls area ≡ empty
+      → engineAfter calls area ≡ engineOf freshHead area
+  -- A cipher call that ends within the limit is accepted whenever the account is a four.
   pub cipherable :
       (calls : List Call) → AllGiven calls → (area bytes : List ℕ) (f : Four) → accountAfter calls area ≡ holds f
       → f .position + length bytes ≤ limit
       → (r : Ciphered) × (cipher (engineAfter calls area .head) (engineAfter calls area .area) bytes ≡ accepted r)
+  -- 'A move to an earlier byte gives the state that held there', and so does a move to a later one: every move that ends within the stream is
+  -- accepted and leaves head and tables of the four at its end, and no other move is accepted.
   pub movable :
       (calls : List Call) → AllGiven calls → (area : List ℕ) (d : ℤ) (f : Four) (end : ℕ) → accountAfter calls area ≡ holds f
       → pos (f .position) +ℤ d ≡ pos end → end ≤ limit
-      → (e : Engine) × (move (engineAfter calls area .head) (engineAfter calls area .area) d ≡ accepted e)
+      → move (engineAfter calls area .head) (engineAfter calls area .area) d ≡ accepted (engineOfFour (atPosition f end))
+  pub moved :
+      (calls : List Call) → AllGiven calls → (area : List ℕ) (d : ℤ) (f : Four) (e : Engine) → accountAfter calls area ≡ holds f
+      → move (engineAfter calls area .head) (engineAfter calls area .area) d ≡ accepted e
+      → (end : ℕ) × (pos (f .position) +ℤ d ≡ pos end) × (end ≤ limit) × (e ≡ engineOfFour (atPosition f end))
   -- The byte enciphered at a position is the plain byte with that keystream byte of the account's cipher, key and IV.
   pub enciphered :
       (calls : List Call) → AllGiven calls → (area bytes : List ℕ) (f : Four) → accountAfter calls area ≡ holds f
@@ -43,4 +58,9 @@ pub record Demand2 : Type 0 where
   -- Where a move by d is accepted, so is the move back by -d, and it restores head and tables.
   pub moved-back :
       (h : Head) (area : List ℕ) (d : ℤ) (there : Engine) → AllWords area → move h area d ≡ accepted there
-      → move (there .head) (there .area) (negℤ d) ≡ accepted (record { head = h; area = area })
+      → move (there .head) (there .area) (negℤ d) ≡ accepted (engineOf h area)
+  -- Where n bytes are ciphered, the move back by n is accepted and restores head and tables; there, ciphering what was given gives the bytes back.
+  pub ciphered-back :
+      (h : Head) (area bytes : List ℕ) (r : Ciphered) → AllWords area → cipher h area bytes ≡ accepted r
+      → (move (r .engine .head) (r .engine .area) (negℤ (pos (length bytes))) ≡ accepted (engineOf h area))
+      × (cipher h area (r .bytes) ≡ accepted (record { engine = r .engine; bytes = bytes }))
