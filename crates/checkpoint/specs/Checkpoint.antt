@@ -1,6 +1,7 @@
 -- Document 01, 'Checkpoint': 'one byte for the cipher code, the position as a number, then 2T words'.
 use mathlib.Core.List.{List, [], _∷_, _++_}
 use Prim.Native.Nat.{ℕ, _+_, _*_}
+use lib.ListN.{length, drop}
 use Rattle.word.specs.Bytes.{bytes}
 use Rattle.varint.specs.Number.{number}
 use Rattle.cipher.specs.declared.Cipher.{Cipher}
@@ -8,6 +9,10 @@ use Rattle.cipher.specs.Numbers.{codeOf, areaLength}
 
 unfoldable pub layout : Cipher → ℕ → List ℕ → List ℕ
 layout c position s = codeOf c ∷ (number position ++ bytes s)
+
+-- a string at the start of lent bytes; later bytes stay
+abbrev pub putFirst : (string lent : List ℕ) → List ℕ
+putFirst string lent = string ++ drop (length string) lent
 
 -- 'a number has at most four groups'
 abbrev pub mostGroups : ℕ

@@ -46,7 +46,9 @@ fn put_words(out: &mut [u8], at: usize, area: &[u32])
 // Puts the checkpoint at the start of the lent bytes and returns its length; later bytes stay.
 pub fn write_checkpoint(cipher: Cipher, position: u64, area: &[u32], lent: &mut [u8]) -> usize
     requires { ⌜ (length (now area) ≡ areaLength cipher) × (position < 2 ^ 28) × (Checkpoint.room cipher ≤ length (now lent)) ⌝ }
-    ensures { λ r. ⌜ (r ≡ length (Checkpoint.layout cipher position (now (area .entry)))) × (now (lent .exit) ≡ Checkpoint.layout cipher position (now (area .entry)) ++ drop (length (Checkpoint.layout cipher position (now (area .entry)))) (now (lent .entry))) ⌝ }
+    ensures { λ r. ⌜
+        (r ≡ length (Checkpoint.layout cipher position (now (area .entry))))
+        × (now (lent .exit) ≡ Checkpoint.putFirst (Checkpoint.layout cipher position (now (area .entry))) (now (lent .entry))) ⌝ }
 {
     let row = cipher::row_of(cipher);
     lent[0] = row.code;

@@ -70,7 +70,8 @@ pub record KeyAndIv : Type 0 where
   pub key : List ℕ
   pub iv : List ℕ
 
--- 12: no key and IV have these tables at this position
+-- 12: no key and IV have these tables at this position. Here it is given where undoing finds none; `Refusal12` in theorems/specs says that this is
+-- so exactly where none have them.
 abbrev pub foundOr12 : Undone → Result KeyAndIv
 foundOr12 SetUp.none = refused 12
 foundOr12 (SetUp.found key iv) = accepted (record { key = key; iv = iv })

@@ -175,8 +175,8 @@ pub fn load_check(string: &[u8], size: usize) -> Beginning
     if refusal != 0 {
         return no_beginning(refusal);
     }
-    let position = place.value;
-    if LIMIT < position {
+    let stated = place.value;
+    if LIMIT < stated {
         return no_beginning(5);
     }
     let next = place.next;
@@ -186,7 +186,7 @@ pub fn load_check(string: &[u8], size: usize) -> Beginning
     Beginning {
         refusal: 0,
         cipher: c,
-        position: position,
+        position: stated,
         next: next,
     }
 }

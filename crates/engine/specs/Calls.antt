@@ -4,13 +4,13 @@ use mathlib.Core.List.{List, _++_}
 use Prim.Native.Nat.{ℕ, _+_, _-_}
 use lib.Dec.{leb}
 use lib.IntN.{ℤ}
-use lib.ListN.{length, drop, replicate}
+use lib.ListN.{length, replicate}
 use Rattle.word.specs.Bytes.{words}
 use Rattle.cipher.specs.Numbers.{byCode, codeOf}
 use Rattle.keystream.specs.Steps.{moved}
 use Rattle.keystream.specs.Keystream.{ciphered}
 use Rattle.setup.specs.SetUp as SetUp
-use Rattle.checkpoint.specs.Checkpoint.{layout, room}
+use Rattle.checkpoint.specs.Checkpoint.{layout, putFirst, room}
 use Rattle.conditions.specs.Result.{Result, accepted, Outcome, outcome, _>>=_, _>>_, refuse_unless_, refuse_without_}
 use Rattle.conditions.specs.Limit.{limit}
 use Rattle.conditions.specs.Conditions.{setUpCheck, ready, cipherCheck, moveCheck, recoverCheck, loadCheck}
@@ -72,7 +72,7 @@ write h area lent = do
   c ← ready (h .code) (h .position) (length area)
   refuse 8 unless leb (room c) (length lent)
   let string = layout c (h .position) area
-  accepted (record { engine = engineOf h area; length = length string; lent = string ++ drop (length string) lent })
+  accepted (record { engine = engineOf h area; length = length string; lent = putFirst string lent })
 
 unfoldable pub writeCall : (head : Head) (area lent : List ℕ) → Outcome Written
 writeCall h area lent = outcome (record { engine = engineOf h area; length = 0; lent = lent }) (write h area lent)

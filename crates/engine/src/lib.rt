@@ -38,8 +38,8 @@ fn not_written(refusal: u8, head: Head) -> WriteDone
 }
 
 // What a refused load hands back.
-fn not_loaded(refusal: u8, head: Head) -> LoadDone
-    ensures { λ r. ⌜ r ≡ record { answer = record { refusal = refusal; key = replicate 8 0; iv = replicate 8 0 }; head = head } ⌝ }
+fn not_loaded(refusal: u8, kept: Head) -> LoadDone
+    ensures { λ r. ⌜ r ≡ record { answer = record { refusal = refusal; key = replicate 8 0; iv = replicate 8 0 }; head = kept } ⌝ }
 {
     let zeros = [0u32; 8];
     LoadDone {
@@ -48,7 +48,7 @@ fn not_loaded(refusal: u8, head: Head) -> LoadDone
             key: zeros,
             iv: zeros,
         },
-        head: head,
+        head: kept,
     }
 }
 

@@ -2,10 +2,10 @@
 use mathlib.Core.Path.{_≡_}
 use mathlib.Core.List.{List, [], _∷_, _++_, flatten}
 use Prim.Native.Nat.{ℕ, _≤_}
-use lib.ListN.{length, drop}
+use lib.ListN.{length}
 use Rattle.cipher.specs.Numbers.{codeOf, areaLength, keyLength, ivLength}
 use Rattle.setup.specs.SetUp as SetUp
-use Rattle.checkpoint.specs.Checkpoint.{room}
+use Rattle.checkpoint.specs.Checkpoint.{putFirst, room}
 use Rattle.conditions.specs.Result.{Outcome}
 use Rattle.conditions.specs.Limit.{limit}
 use Rattle.engine.specs.Head.{freshHead, headAt}
@@ -31,7 +31,7 @@ checkpointPut f lent =
       value = record {
         engine = engineOfFour f;
         length = length (checkpointOf f);
-        lent = checkpointOf f ++ drop (length (checkpointOf f)) lent;
+        lent = putFirst (checkpointOf f) lent;
       };
     }
 

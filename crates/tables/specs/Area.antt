@@ -32,7 +32,8 @@ startB T false = 0
 abbrev pub table : List ℕ → ℕ → ℕ → ℕ
 table s start k = getD s (start + k) 0
 
--- 'with j = i mod T and indices modulo T': the five that a step reads
+-- 'with j = i mod T and indices modulo T': the five that a step reads; n below j modulo T is written (j + (T - n)) mod T. `Indices` in
+-- theorems/specs says that they are document 01's.
 abbrev pub indicesAt : ℕ → ℕ → Indices
 indicesAt T i = record {
   j = i % T;

@@ -108,6 +108,8 @@ feed size a (call-cipher bytes) =
     (λ c. at a (accountPosition a + length bytes))
 feed size a (call-move distance) =
     unless-refused a (moveCheck (accountCode a) (accountPosition a) size distance) (λ m. at a (m .end))
+-- 'Load makes it the four whose checkpoint the string is': load's conditions find that four by undoing. `feed-load` of Demand3 says that it is the
+-- one whose checkpoint the string is, and `feed-else` that the account stays where the string is the checkpoint of none.
 feed size a (call-load string) =
     unless-refused a (loadCheck string size)
     (λ l. holds (record { cipher = l .cipher; key = l .key; iv = l .iv; position = l .position }))

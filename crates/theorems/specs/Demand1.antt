@@ -8,7 +8,8 @@ use lib.IntN.{ℤ}
 use lib.ListN.{replicate}
 use Rattle.conditions.specs.Result.{Result, refused, accepted, Outcome}
 use Rattle.engine.specs.declared.Head.{Head}
-use Rattle.engine.specs.Calls.{engineOf, setUp, setUpCall, cipher, cipherCall, move, moveCall, write, writeCall, recover, recoverCall, load, loadCall, spent, spentCall}
+use Rattle.engine.specs.Calls.{engineOf, setUp, cipher, move, write, recover, load, spent}
+use Rattle.engine.specs.Calls.{setUpCall, cipherCall, moveCall, writeCall, recoverCall, loadCall, spentCall}
 
 module _ {A : Type 0} where
   -- the call is accepted: its refusal is 0, and what it leaves is what its result gives
@@ -34,13 +35,15 @@ pub record Demand1 : Type 0 where
       → Answers (1 ∷ 2 ∷ 3 ∷ 4 ∷ []) (engineOf h area) (setUp code key iv area) (setUpCall h code key iv area)
   pub of-cipher :
       (h : Head) (area bytes : List ℕ)
-      → Answers (1 ∷ 4 ∷ 5 ∷ 6 ∷ []) (record { engine = engineOf h area; bytes = bytes }) (cipher h area bytes) (cipherCall h area bytes)
+      → Answers (1 ∷ 4 ∷ 5 ∷ 6 ∷ []) (record { engine = engineOf h area; bytes = bytes })
+      (cipher h area bytes) (cipherCall h area bytes)
   pub of-move :
       (h : Head) (area : List ℕ) (distance : ℤ)
       → Answers (1 ∷ 4 ∷ 5 ∷ 7 ∷ 6 ∷ []) (engineOf h area) (move h area distance) (moveCall h area distance)
   pub of-write :
       (h : Head) (area lent : List ℕ)
-      → Answers (1 ∷ 4 ∷ 5 ∷ 8 ∷ []) (record { engine = engineOf h area; length = 0; lent = lent }) (write h area lent) (writeCall h area lent)
+      → Answers (1 ∷ 4 ∷ 5 ∷ 8 ∷ []) (record { engine = engineOf h area; length = 0; lent = lent })
+      (write h area lent) (writeCall h area lent)
   pub of-recover :
       (h : Head) (area key iv : List ℕ)
       → Answers (1 ∷ 4 ∷ 5 ∷ 2 ∷ 3 ∷ 12 ∷ []) (record { engine = engineOf h area; key = key; iv = iv })

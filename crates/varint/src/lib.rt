@@ -29,7 +29,9 @@ pub enum Read {
 // The groups from place `at` on, at most `most` of them, the last of which is not below `least`.
 fn read_groups(string: &[u8], at: usize, most: u32, least: u8) -> Read
     requires { ⌜ (at ≤ length (now string)) × (most ≤ 9) × (least ≤ 1) ⌝ }
-    ensures { λ r. ⌜ (readingOf (now (string .entry)) r ≡ Number.readGroups most least (drop at (now (string .entry)))) × nextWithin at (length (now (string .entry))) r ⌝ }
+    ensures { λ r. ⌜
+        (readingOf (now (string .entry)) r ≡ Number.readGroups most least (drop at (now (string .entry))))
+        × nextWithin at (length (now (string .entry))) r ⌝ }
 {
     if most == 0 {
         return Read::Malformed; // also where the string ends here
@@ -61,7 +63,9 @@ fn read_groups(string: &[u8], at: usize, most: u32, least: u8) -> Read
 // The number from place `at` on, of at most `most` groups.
 pub fn read_number(string: &[u8], at: usize, most: u32) -> Read
     requires { ⌜ (at ≤ length (now string)) × (most ≤ 9) ⌝ }
-    ensures { λ r. ⌜ (readingOf (now (string .entry)) r ≡ Number.readNumber most (drop at (now (string .entry)))) × nextWithin at (length (now (string .entry))) r ⌝ }
+    ensures { λ r. ⌜
+        (readingOf (now (string .entry)) r ≡ Number.readNumber most (drop at (now (string .entry))))
+        × nextWithin at (length (now (string .entry))) r ⌝ }
 {
     read_groups(string, at, most, 0)
 }
