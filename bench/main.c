@@ -108,12 +108,10 @@ static void print_goals(void)
 {
     printf("\n| %-66s | cipher | %8s | %-6s |\n|---|---|--:|---|\n", "goal", "number", "");
     for (int cipher = 0; cipher < 2; cipher++) {
-        double back = seconds[BACK][cipher][ARCHIVE] / seconds[FORWARD][cipher][ARCHIVE];
         double set_up = against_fastest(SET_UP, cipher, PLAIN_GCC, PLAIN_CLANG);
         double call = seconds[CALL_3][cipher][ARCHIVE] / seconds[SET_UP][cipher][ARCHIVE];
         print_bulk_goal(BULK_64_KIB, cipher, "64 KiB");
         print_bulk_goal(BULK_16_MIB, cipher, "16 MiB");
-        print_goal("the way back: time / way forward, at most 1.2", cipher, back, back <= 1.2);
         print_goal("set-up: time / faster plain C, at most 2", cipher, set_up, set_up <= 2);
         print_goal("call of 3 bytes: time / set-up, below 0.05", cipher, call, call < 0.05);
     }

@@ -73,12 +73,28 @@ pub fn code_of(cipher: Cipher) -> u8
     row.code
 }
 
+// The words of a table, T.
+pub fn table_words(cipher: Cipher) -> usize
+    ensures { λ r. ⌜ (r ≡ Numbers.tableLength cipher) × (512 ≤ r) × (r ≤ 1024) ⌝ }
+{
+    let row = row_of(cipher);
+    row.table
+}
+
 // The words of a table area, 2T.
 pub fn area_words(cipher: Cipher) -> usize
     ensures { λ r. ⌜ (r ≡ Numbers.areaLength cipher) × (r ≤ 2048) ⌝ }
 {
     let row = row_of(cipher);
     2 * row.table
+}
+
+// The words of the expansion.
+pub fn expansion_words(cipher: Cipher) -> usize
+    ensures { λ r. ⌜ (r ≡ Numbers.expansionLength cipher) × (r ≤ 2560) ⌝ }
+{
+    let row = row_of(cipher);
+    row.expansion
 }
 
 // The bytes of a key.

@@ -9,7 +9,7 @@ use lib.ListN.{length, drop}
 use Rattle.word.specs.Bytes.{words}
 use Rattle.cipher.specs.declared.Cipher.{Cipher}
 use Rattle.cipher.specs.Numbers.{byCode, areaLength, keyLength, ivLength}
-use Rattle.keystream.specs.Steps.{stepsBack, stepsAt}
+use Rattle.steps.specs.Steps.{stepsBack, stepsAt}
 use Rattle.setup.specs.SetUp as SetUp
 use Rattle.setup.specs.SetUp.{Undone, undo}
 use Rattle.varint.specs.Number.{Reading, is, ended, malformed, readNumber}

@@ -14,9 +14,9 @@ use Rattle.word.proofs.Bytes.{words-bytes}
 use Rattle.cipher.specs.declared.Cipher.{Cipher}
 use Rattle.cipher.specs.Numbers.{codeOf, keyLength, ivLength}
 use Rattle.cipher.proofs.Sizes.{sizes}
-use Rattle.schedule.specs.Key.{keyOf, ivOf}
+use Rattle.keys.specs.Key.{keyOf, ivOf}
 use Rattle.schedule.specs.Origin.{origin, isFilled}
-use Rattle.keystream.specs.Steps.{moved}
+use Rattle.steps.specs.Steps.{moved}
 use Rattle.keystream.specs.Keystream.{tablesAfter, ciphered}
 use Rattle.keystream.proofs.Positions.{moved-on}
 use Rattle.setup.specs.SetUp as SetUp

@@ -7,7 +7,7 @@ use lib.IntN.{ℤ}
 use lib.ListN.{length, replicate}
 use Rattle.word.specs.Bytes.{words}
 use Rattle.cipher.specs.Numbers.{byCode, codeOf}
-use Rattle.keystream.specs.Steps.{moved}
+use Rattle.steps.specs.Steps.{moved}
 use Rattle.keystream.specs.Keystream.{ciphered}
 use Rattle.setup.specs.SetUp as SetUp
 use Rattle.checkpoint.specs.Checkpoint.{layout, putFirst, room}

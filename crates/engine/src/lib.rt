@@ -165,7 +165,7 @@ impl Head {
         }
         let c = checked.cipher;
         let to = end.position;
-        keystream::move_tables(c, area, position as usize, to as usize);
+        steps::move_tables(c, area, position as usize, to as usize);
         Done {
             refusal: 0,
             head: Head::at(code, to),
@@ -273,7 +273,7 @@ impl Head {
             };
         }
         let w = found.words;
-        schedule::store_key_and_iv(c, w, key, iv);
+        keys::store_key_and_iv(c, w, key, iv);
         Done {
             refusal: 0,
             head: self,

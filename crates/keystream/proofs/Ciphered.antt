@@ -11,7 +11,7 @@ use Rattle.word.specs.Word.{_⊕_}
 use Rattle.word.specs.Bytes.{byte}
 use Rattle.cipher.specs.declared.Cipher.{Cipher}
 use Rattle.tables.specs.Step.{output}
-use Rattle.keystream.specs.Steps.{steps, stepsAt}
+use Rattle.steps.specs.Steps.{steps, stepsAt}
 use Rattle.keystream.specs.Keystream.{keyByte, tablesNext, tablesAfter, ciphered}
 use Rattle.keystream.proofs.Positions.{tables-after}
 use Rattle.keystream.proofs.Xored.{Xored}

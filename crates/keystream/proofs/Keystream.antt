@@ -8,9 +8,10 @@ use Rattle.laws.proofs.Iterate.{forward-from}
 use Rattle.word.specs.Word.{_⊕_}
 use Rattle.cipher.specs.declared.Cipher.{Cipher}
 use Rattle.tables.specs.Step.{step}
-use Rattle.keystream.specs.Steps.{steps, stepsAt}
+use Rattle.steps.specs.Steps.{steps, stepsAt}
+use Rattle.steps.proofs.Moved.{steps-up}
 use Rattle.keystream.specs.Keystream.{keyByte, keystream, tablesAfter, ciphered}
-use Rattle.keystream.proofs.Positions.{steps-up, tables-after}
+use Rattle.keystream.proofs.Positions.{tables-after}
 use Rattle.keystream.proofs.Ciphered.{ciphered-at}
 
 last-word : (p k : ℕ) → stepsAt (p + suc k) ≡ (p + k) / 4 + 1

@@ -1,7 +1,6 @@
-pub mod Inverse
 pub mod Positions
 pub mod Xored
 pub mod Ciphered
 pub mod Whole
 pub mod Keystream
-pub mod Runs
+pub mod Words

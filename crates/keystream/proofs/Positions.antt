@@ -2,15 +2,16 @@
 use mathlib.Core.Path.{_≡_, refl, sym}
 use mathlib.Core.Logic.{⊎-elim}
 use mathlib.Core.List.{List}
-use Prim.Native.Nat.{ℕ, zero, suc, _+_, _-_, _/_, _%_, _≤_, _<_}
+use Prim.Native.Nat.{ℕ, zero, suc, _+_, _-_, _/_, _%_, _≤_}
 use native.Mathlib.Nat.{add-suc}
 use native.Mathlib.Omega.{arith}
-use borrow.Author.Tests.{eq-eqb, ne-eqb, le-leb, lt-leb}
+use borrow.Author.Tests.{eq-eqb, ne-eqb}
 use Rattle.laws.specs.Iterate.{forward}
 use Rattle.laws.proofs.Lists.{below-or-not}
 use Rattle.cipher.specs.declared.Cipher.{Cipher}
 use Rattle.tables.specs.Step.{step}
-use Rattle.keystream.specs.Steps.{steps, stepsBack, stepsAt, moved}
+use Rattle.steps.specs.Steps.{steps, stepsAt, moved}
+use Rattle.steps.proofs.Moved.{steps-up, moved-up}
 use Rattle.keystream.specs.Keystream.{tablesNext, tablesAfter}
 
 -- where a word begins at q, one step more is counted, and its number is q/4; inside a word, none
@@ -20,13 +21,10 @@ begins q e = omega arith
 inside : (q : ℕ) → (q % 4 ≡ 0 → ⊥) → stepsAt (suc q) ≡ stepsAt q
 inside q h = omega arith
 
-pub steps-up : (p n : ℕ) → stepsAt p ≤ stepsAt (p + n)
-steps-up p n = omega arith
-
 less-suc : (a b d : ℕ) → a ≤ b → d ≡ suc b → d - a ≡ suc (b - a)
 less-suc a b d l e = omega arith
 
-pub plus-less : (a b : ℕ) → a ≤ b → a + (b - a) ≡ b
+plus-less : (a b : ℕ) → a ≤ b → a + (b - a) ≡ b
 plus-less a b l = omega arith
 
 module _ (c : Cipher) (s : List ℕ) (p : ℕ) where
@@ -54,16 +52,6 @@ module _ (c : Cipher) (s : List ℕ) (p : ℕ) where
   tables-after (suc n) =
       rw (tables-after n, add-suc p n)
       (⊎-elim (λ l. one-more n (omega arith)) (λ l. none-more n (λ e. omega arith)) (below-or-not ((p + n) % 4) 1))
-
--- the two ways of a move from position p to position q, where i and j are their steps
-module _ (c : Cipher) (s t : List ℕ) (p q i j : ℕ) (ei : i ≡ stepsAt p) (ej : j ≡ stepsAt q) where
-  pub moved-up : i ≤ j → t ≡ steps c s i (j - i) → t ≡ moved c s p q
-  unfolding moved
-  moved-up l e = rw (← ei, ← ej, le-leb i j l) e
-
-  pub moved-down : j < i → t ≡ stepsBack c s j (i - j) → t ≡ moved c s p q
-  unfolding moved
-  moved-down l e = rw (← ei, ← ej, lt-leb i j l) e
 
 -- a move on by n bytes is what ciphering n bytes does to the tables
 pub moved-on : (c : Cipher) (s : List ℕ) (p n : ℕ) → moved c s p (p + n) ≡ tablesAfter c s p n

@@ -12,7 +12,7 @@ use Rattle.laws.proofs.Lists.{below-or-not}
 use Rattle.word.specs.Bytes.{byte}
 use Rattle.cipher.specs.declared.Cipher.{Cipher}
 use Rattle.tables.specs.Step.{step, output}
-use Rattle.keystream.specs.Steps.{steps, stepsAt}
+use Rattle.steps.specs.Steps.{steps, stepsAt}
 use Rattle.keystream.specs.Keystream.{tablesAfter, ciphered}
 use Rattle.keystream.specs.Stores.{xorPart, xorWord, inWord}
 use Rattle.keystream.proofs.Positions.{tables-after}

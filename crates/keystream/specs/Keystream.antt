@@ -1,14 +1,16 @@
 -- The keystream and the ciphering of bytes, byte by byte.
+use mathlib.Core.Path.{_≡_}
 use mathlib.Core.Bool.{cond}
 use mathlib.Core.List.{List, [], _∷_}
 use Prim.Native.Nat.{ℕ, suc, _+_, _/_, _%_}
 use lib.Dec.{eqb}
+use lib.ListN.{length}
 use Rattle.laws.specs.Iterate.{forward}
 use Rattle.word.specs.Word.{_⊕_}
 use Rattle.word.specs.Bytes.{byte}
 use Rattle.cipher.specs.declared.Cipher.{Cipher}
 use Rattle.tables.specs.Step.{step, output}
-use Rattle.keystream.specs.Steps.{steps}
+use Rattle.steps.specs.Steps.{steps}
 
 -- keystream byte p: byte p mod 4 of the output of step p/4, where s are the tables after that step
 abbrev pub keyByte : Cipher → List ℕ → ℕ → ℕ
@@ -30,3 +32,7 @@ tablesAfter c = forward (tablesNext c)
 unfoldable pub ciphered : Cipher → List ℕ → ℕ → List ℕ → List ℕ
 ciphered c s p [] = []
 ciphered c s p (b ∷ bs) = (b ⊕ keyByte c (tablesNext c s p) p) ∷ ciphered c (tablesNext c s p) (suc p) bs
+
+-- the tables and the bytes that a cipher call at position p leaves, where s are the tables at p and bs the bytes lent
+abbrev pub Enciphered : Cipher → List ℕ → List ℕ → ℕ → List ℕ → List ℕ → Type 0
+Enciphered c s bs p stepped done = (stepped ≡ tablesAfter c s p (length bs)) × (done ≡ ciphered c s p bs)

@@ -1,13 +1,14 @@
 -- How the code goes by words: exclusive or of lent bytes with bytes of a word. Only the contracts of this crate's own parts cite it.
+use mathlib.Core.Path.{_≡_}
 use mathlib.Core.List.{List}
-use Prim.Native.Nat.{ℕ, _+_, _-_, _*_, _%_, min}
-use lib.ListN.{getD, set}
+use Prim.Native.Nat.{ℕ, _+_, _-_, _*_, _/_, _%_, min}
+use lib.ListN.{length, getD, set}
 use Rattle.laws.specs.Iterate.{forward}
 use Rattle.word.specs.Word.{_⊕_}
 use Rattle.word.specs.Bytes.{byte}
 use Rattle.cipher.specs.declared.Cipher.{Cipher}
-use Rattle.tables.specs.Step.{output}
-use Rattle.keystream.specs.Steps.{steps}
+use Rattle.tables.specs.Step.{step, output}
+use Rattle.steps.specs.Steps.{steps, stepsAt}
 
 -- the byte at place start + k with byte from + k of the word w
 abbrev pub xorByte : ℕ → ℕ → ℕ → List ℕ → ℕ → List ℕ
@@ -24,3 +25,17 @@ xorWord c s i start bs k = xorPart (start + 4 * k) 4 (output c (steps c s i (k +
 -- how many of n bytes from position p on lie in the word that p is inside; none where a word begins at p
 abbrev pub inWord : ℕ → ℕ → ℕ
 inWord p n = min ((4 - p % 4) % 4) n
+
+-- what the parts of a cipher call leave of the area s and the bytes bs
+-- the r bytes that end the word that position p is inside
+abbrev pub Finished : Cipher → List ℕ → List ℕ → ℕ → ℕ → List ℕ → Type 0
+Finished c s bs p r done = (r ≡ inWord p (length bs)) × (done ≡ xorPart 0 (inWord p (length bs)) (output c s (p / 4)) (p % 4) bs)
+
+-- n whole words from place start on, with the outputs of the steps from step i on
+abbrev pub Worded : Cipher → List ℕ → List ℕ → ℕ → ℕ → ℕ → List ℕ → List ℕ → Type 0
+Worded c s bs i start n stepped done = (stepped ≡ steps c s i n) × (done ≡ forward (xorWord c s i start) bs 0 n)
+
+-- the bytes from place start on, fewer than four, with the first bytes of the output of step i
+abbrev pub Begun : Cipher → List ℕ → List ℕ → ℕ → ℕ → List ℕ → List ℕ → Type 0
+Begun c s bs i start stepped done =
+    (stepped ≡ steps c s i (stepsAt (length bs - start))) × (done ≡ xorPart start (length bs - start) (output c (step c s i) i) 0 bs)

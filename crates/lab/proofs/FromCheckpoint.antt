@@ -17,8 +17,8 @@ use Rattle.cipher.specs.declared.Cipher.the-variants.{Hc128, Hc256}
 use Rattle.cipher.specs.Numbers.{codeOf, areaLength, keyLength, ivLength}
 use Rattle.cipher.proofs.Codes.{code-of}
 use Rattle.tables.specs.Area.{Area}
-use Rattle.schedule.specs.Key.{Pair}
-use Rattle.keystream.specs.Steps.{moved}
+use Rattle.keys.specs.Key.{Pair}
+use Rattle.steps.specs.Steps.{moved}
 use Rattle.keystream.specs.Keystream.{ciphered, tablesNext, tablesAfter, keyByte}
 use Rattle.keystream.proofs.Ciphered.{length-ciphered}
 use Rattle.keystream.proofs.Positions.{moved-on}

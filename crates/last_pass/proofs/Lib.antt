@@ -1,1 +1,3 @@
+pub mod Inner
+pub mod Pass
 pub mod Inverse

@@ -7,7 +7,7 @@ use Rattle.cipher.specs.declared.Cipher.{Cipher}
 use Rattle.schedule.specs.declared.Found.{Found}
 use Rattle.schedule.specs.Origin.{origin, isFilled}
 use Rattle.last_pass.specs.LastPass.{undoLastPass}
-use Rattle.keystream.specs.Steps.{stepsBack, stepsAt}
+use Rattle.steps.specs.Steps.{stepsBack, stepsAt}
 
 -- the filled area that the tables s at a position lead back to
 abbrev pub filledAt : Cipher → List ℕ → ℕ → List ℕ

@@ -26,12 +26,12 @@ fn undo_at(cipher: Cipher, position: usize, area: &mut [u32]) -> Found
     requires { ⌜ (length (now area) ≡ areaLength cipher) × (position < 2 ^ 63) ⌝ }
     ensures { λ r. ⌜ FoundAt cipher (now (area .entry)) position r ⌝ }
 {
-    let n = keystream::steps_at(position);
-    keystream::retreat(cipher, area, 0, n);
+    let n = steps::steps_at(position);
+    steps::retreat(cipher, area, 0, n);
     setup::undo_set_up(cipher, area)
 }
 
-// The same for tables that stay, in a copy.
+// The sixteen words that the tables at a position lead back to; the area stays, and a lent copy of its size is used up.
 fn undo_copy(cipher: Cipher, position: usize, area: &[u32], copy: &mut [u32]) -> Found
     requires { ⌜ (length (now area) ≡ areaLength cipher) × (length (now copy) ≡ areaLength cipher) × (position < 2 ^ 63) ⌝ }
     ensures { λ r. ⌜ FoundAt cipher (now (area .entry)) position r ⌝ }
@@ -40,7 +40,7 @@ fn undo_copy(cipher: Cipher, position: usize, area: &[u32], copy: &mut [u32]) ->
     undo_at(cipher, position, copy)
 }
 
-// The same with the copy at the start of a lent scratch that either cipher fits.
+// The sixteen words that the tables at a position lead back to; the area stays, and the start of a lent scratch that either cipher fits is used up.
 fn undo_in(cipher: Cipher, position: usize, area: &[u32], scratch: &mut [u32]) -> Found
     requires { ⌜ (length (now area) ≡ areaLength cipher) × (length (now scratch) ≡ 2048) × (position < 2 ^ 63) ⌝ }
     ensures { λ r. ⌜ FoundAt cipher (now (area .entry)) position r ⌝ }
@@ -49,7 +49,7 @@ fn undo_in(cipher: Cipher, position: usize, area: &[u32], scratch: &mut [u32]) -
     undo_copy(cipher, position, area, &mut scratch[..n])
 }
 
-// The same with the scratch on the stack.
+// The sixteen words that the tables of an area at a position lead back to; the area stays, and the scratch is on the stack.
 pub fn of_area(cipher: Cipher, position: usize, area: &[u32]) -> Found
     requires { ⌜ (length (now area) ≡ areaLength cipher) × (position < 2 ^ 63) ⌝ }
     ensures { λ r. ⌜ FoundAt cipher (now (area .entry)) position r ⌝ }
@@ -58,7 +58,7 @@ pub fn of_area(cipher: Cipher, position: usize, area: &[u32]) -> Found
     undo_in(cipher, position, area, &mut scratch)
 }
 
-// The same for the words of a string from place `from` on.
+// The sixteen words that the tables in a string, from place `from` on, lead back to at a position; the lent area is used up.
 fn undo_string(
     cipher: Cipher,
     position: usize,
@@ -73,7 +73,7 @@ fn undo_string(
     undo_at(cipher, position, area)
 }
 
-// The same at the start of a lent scratch that either cipher fits.
+// The sixteen words that the tables in a string lead back to; the start of a lent scratch that either cipher fits is used up.
 fn undo_string_in(
     cipher: Cipher,
     position: usize,
@@ -88,7 +88,7 @@ fn undo_string_in(
     undo_string(cipher, position, string, from, &mut scratch[..n])
 }
 
-// The same with the scratch on the stack.
+// The sixteen words that the tables in a string, from place `from` on, lead back to at a position; the scratch is on the stack.
 pub fn of_string(cipher: Cipher, position: usize, string: &[u8], from: usize) -> Found
     requires { ⌜ (from + 4 * areaLength cipher ≡ length (now string)) × (position < 2 ^ 63) ⌝ }
     ensures { λ r. ⌜ FoundAt cipher (words (drop from (now (string .entry)))) position r ⌝ }

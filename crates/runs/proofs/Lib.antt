@@ -1,3 +1,2 @@
-pub mod Inner
-pub mod Places
+pub mod At
 pub mod Lengths

@@ -1,18 +1,27 @@
 -- A run: steps of one turn whose indices do not wrap. It says how the code goes about it; only contracts below the engine cite it.
-use Prim.Native.Nat.{ℕ, _+_, _-_, _*_, _%_, _≤_, _<_}
-use mathlib.Core.Bool.{cond}
+use mathlib.Core.Path.{_≡_}
+use mathlib.Core.Bool.{Bool, cond}
+use mathlib.Core.List.{List}
+use Prim.Native.Nat.{ℕ, _+_, _-_, _%_, _≤_, _<_}
 use lib.Dec.{ltb}
+use lib.ListN.{length}
+use Rattle.cipher.specs.declared.Cipher.{Cipher}
+use Rattle.cipher.specs.Numbers.{tableLength, areaLength}
+use Rattle.tables.specs.Area.{changesP}
 
 -- the steps i to i + n - 1, for tables of T words: A[j-12] of the first and A[j+1] of the last stand in the same turn
 pub record Run (T i n : ℕ) : Type 0 where
   pub not-first : 12 ≤ i % T
   pub not-last : i % T + n < T
 
--- the same of step k alone, where k is also the place of A[j] in the area
-pub record Inner (T k : ℕ) : Type 0 where
-  pub not-first : 12 ≤ k % T
-  pub not-last : k % T + 1 < T
-  pub inside : k < 2 * T
+-- a step of a run on the area s: k is its number and also the place of A[j], and p tells whether P changes
+pub record At (c : Cipher) (s : List ℕ) (p : Bool) (k : ℕ) : Type 0 where
+  pub sized : length s ≡ areaLength c
+  pub half : p ≡ changesP (tableLength c) k
+  pub not-first : 12 ≤ k % tableLength c
+  pub not-last : k % tableLength c + 1 < tableLength c
+  pub above : 12 ≤ k
+  pub below : k + 1 < areaLength c
 
 -- how many steps from step i on are a run, and how many before it
 abbrev pub runFrom : ℕ → ℕ → ℕ

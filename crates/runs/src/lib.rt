@@ -1,209 +1,70 @@
 // A run is a number of steps of one turn whose indices do not wrap: A[j-3] is then the word three places before A[j] in the area.
 ghost use mathlib.Core.Path.{_≡_};
-ghost use Prim.Native.Nat.{_+_, _%_, _≤_, _<_};
+ghost use Prim.Native.Nat.{_+_, _%_, _<_};
 ghost use lib.ListN.{length, getD};
 ghost use Rattle.laws.specs.Iterate.{forward, backward};
 ghost use Rattle.cipher.specs.Numbers.{tableLength, areaLength};
-ghost use Rattle.tables.specs.Area.{changesP, startB};
+ghost use Rattle.functions.specs.ByCipher.{put};
 ghost use Rattle.tables.specs.Step as Step;
 ghost use Rattle.runs.specs.Run as Run;
-ghost use Rattle.runs.specs.Run.{Inner};
 use cipher::Cipher;
 
-// Step k of HC-128, where P changes; its output.
-fn word_128_p(area: &mut [u32], k: usize) -> u32
-    requires { ⌜ (length (now area) ≡ 1024) × Inner 512 k × (k < 512) ⌝ }
-    ensures { λ r. ⌜ (now (area .exit) ≡ Step.step Cipher.Hc128 (now (area .entry)) k) × (r ≡ Step.output Cipher.Hc128 (now (area .exit)) k) ⌝ }
+// The word w with the feedback of step k put on it, or taken off where `back` holds; p tells whether P changes, and `next` is A[j+1].
+pub fn with_feedback(
+    cipher: Cipher,
+    back: bool,
+    area: &[u32],
+    p: bool,
+    k: usize,
+    next: u32,
+    w: u32,
+) -> u32
+    requires { ⌜ Run.At cipher (now area) p k × (next ≡ getD (now area) (k + 1) 0) ⌝ }
+    ensures { λ r. ⌜ r ≡ put back w (Step.feedback cipher (now (area .entry)) k) ⌝ }
 {
-    let d = tables::g_p(area[k - 3], area[k - 10], area[k + 1]);
-    area[k] = word::sum(area[k], d);
-    let x = area[k - 12];
-    tables::h_128(area, 512, x) ^ area[k]
+    functions::with_feedback(cipher, back, area, p, area[k - 3], area[k - 10], next, w)
 }
 
-// Step k of HC-128, where Q changes; its output.
-fn word_128_q(area: &mut [u32], k: usize) -> u32
-    requires { ⌜ (length (now area) ≡ 1024) × Inner 512 k × (512 ≤ k) ⌝ }
-    ensures { λ r. ⌜ (now (area .exit) ≡ Step.step Cipher.Hc128 (now (area .entry)) k) × (r ≡ Step.output Cipher.Hc128 (now (area .exit)) k) ⌝ }
+// h(A[j-12]) at step k, where p tells whether P changes.
+pub fn filter(cipher: Cipher, area: &[u32], p: bool, k: usize) -> u32
+    requires { ⌜ Run.At cipher (now area) p k ⌝ }
+    ensures { λ r. ⌜ r ≡ Step.filter cipher (now (area .entry)) k ⌝ }
 {
-    let d = tables::g_q(area[k - 3], area[k - 10], area[k + 1]);
-    area[k] = word::sum(area[k], d);
-    let x = area[k - 12];
-    tables::h_128(area, 0, x) ^ area[k]
+    functions::filter(cipher, area, p, area[k - 12])
 }
 
-// Step k of HC-256, where B begins at b; its output.
-fn word_256_at(area: &mut [u32], b: usize, k: usize) -> u32
-    requires { ⌜ (length (now area) ≡ 2048) × Inner 1024 k × (b ≤ 1024) × (b ≡ startB 1024 (changesP 1024 k)) ⌝ }
-    ensures { λ r. ⌜ (now (area .exit) ≡ Step.step Cipher.Hc256 (now (area .entry)) k) × (r ≡ Step.output Cipher.Hc256 (now (area .exit)) k) ⌝ }
+// Step k, where p tells whether P changes.
+fn step(cipher: Cipher, area: &mut [u32], p: bool, k: usize)
+    requires { ⌜ Run.At cipher (now area) p k ⌝ }
+    ensures { λ _. ⌜ now (area .exit) ≡ Step.step cipher (now (area .entry)) k ⌝ }
 {
-    let x = area[k - 3];
-    let y = area[k + 1];
-    let g = tables::g_256(area, b, x, y);
-    let d = word::sum(area[k - 10], g);
-    area[k] = word::sum(area[k], d);
-    let z = area[k - 12];
-    tables::h_256(area, b, z) ^ area[k]
+    let next = area[k + 1];
+    area[k] = with_feedback(cipher, false, area, p, k, next, area[k]);
 }
 
-// Step k of HC-128 undone, where P changed and `next` is A[j+1]; the word restored.
-fn back_128_p(area: &mut [u32], k: usize, next: u32) -> u32
-    requires { ⌜ (length (now area) ≡ 1024) × Inner 512 k × (k < 512) × (next ≡ getD (now area) (k + 1) 0) ⌝ }
-    ensures { λ r. ⌜ (now (area .exit) ≡ Step.stepBack Cipher.Hc128 (now (area .entry)) k) × (r ≡ getD (now (area .exit)) k 0) ⌝ }
+// Step k, where p tells whether P changes; its output.
+pub fn word(cipher: Cipher, area: &mut [u32], p: bool, k: usize) -> u32
+    requires { ⌜ Run.At cipher (now area) p k ⌝ }
+    ensures { λ r. ⌜ (now (area .exit) ≡ Step.step cipher (now (area .entry)) k) × (r ≡ Step.output cipher (now (area .exit)) k) ⌝ }
 {
-    let d = tables::g_p(area[k - 3], area[k - 10], next);
-    area[k] = word::difference(area[k], d);
+    step(cipher, area, p, k);
+    filter(cipher, area, p, k) ^ area[k]
+}
+
+// Step k undone, where p tells whether P changed and `next` is A[j+1]; the word restored.
+fn step_back(cipher: Cipher, area: &mut [u32], p: bool, k: usize, next: u32) -> u32
+    requires { ⌜ Run.At cipher (now area) p k × (next ≡ getD (now area) (k + 1) 0) ⌝ }
+    ensures { λ r. ⌜ (now (area .exit) ≡ Step.stepBack cipher (now (area .entry)) k) × (r ≡ getD (now (area .exit)) k 0) ⌝ }
+{
+    area[k] = with_feedback(cipher, true, area, p, k, next, area[k]);
     area[k]
-}
-
-// Step k of HC-128 undone, where Q changed and `next` is A[j+1]; the word restored.
-fn back_128_q(area: &mut [u32], k: usize, next: u32) -> u32
-    requires { ⌜ (length (now area) ≡ 1024) × Inner 512 k × (512 ≤ k) × (next ≡ getD (now area) (k + 1) 0) ⌝ }
-    ensures { λ r. ⌜ (now (area .exit) ≡ Step.stepBack Cipher.Hc128 (now (area .entry)) k) × (r ≡ getD (now (area .exit)) k 0) ⌝ }
-{
-    let d = tables::g_q(area[k - 3], area[k - 10], next);
-    area[k] = word::difference(area[k], d);
-    area[k]
-}
-
-// Step k of HC-256 undone, where B begins at b and `next` is A[j+1]; the word restored.
-fn back_256_at(area: &mut [u32], b: usize, k: usize, next: u32) -> u32
-    requires { ⌜ (length (now area) ≡ 2048) × Inner 1024 k × (b ≤ 1024) × (b ≡ startB 1024 (changesP 1024 k)) × (next ≡ getD (now area) (k + 1) 0) ⌝ }
-    ensures { λ r. ⌜ (now (area .exit) ≡ Step.stepBack Cipher.Hc256 (now (area .entry)) k) × (r ≡ getD (now (area .exit)) k 0) ⌝ }
-{
-    let x = area[k - 3];
-    let g = tables::g_256(area, b, x, next);
-    let d = word::sum(area[k - 10], g);
-    area[k] = word::difference(area[k], d);
-    area[k]
-}
-
-// Step k of HC-128, where B begins at b; its output.
-pub fn word_128(area: &mut [u32], b: usize, k: usize) -> u32
-    requires { ⌜ (length (now area) ≡ 1024) × Inner 512 k × (b ≡ startB 512 (changesP 512 k)) ⌝ }
-    ensures { λ r. ⌜ (now (area .exit) ≡ Step.step Cipher.Hc128 (now (area .entry)) k) × (r ≡ Step.output Cipher.Hc128 (now (area .exit)) k) ⌝ }
-{
-    if b == 512 {
-        word_128_p(area, k)
-    } else {
-        word_128_q(area, k)
-    }
-}
-
-// Step k of HC-256, where B begins at b; its output. In each arm b is a constant, which makes a loop around it faster.
-pub fn word_256(area: &mut [u32], b: usize, k: usize) -> u32
-    requires { ⌜ (length (now area) ≡ 2048) × Inner 1024 k × (b ≡ startB 1024 (changesP 1024 k)) ⌝ }
-    ensures { λ r. ⌜ (now (area .exit) ≡ Step.step Cipher.Hc256 (now (area .entry)) k) × (r ≡ Step.output Cipher.Hc256 (now (area .exit)) k) ⌝ }
-{
-    if b == 1024 {
-        word_256_at(area, 1024, k)
-    } else {
-        word_256_at(area, 0, k)
-    }
-}
-
-// Step k of HC-128 undone, where B begins at b and `next` is A[j+1]; the word restored.
-fn back_128(area: &mut [u32], b: usize, k: usize, next: u32) -> u32
-    requires { ⌜ (length (now area) ≡ 1024) × Inner 512 k × (b ≡ startB 512 (changesP 512 k)) × (next ≡ getD (now area) (k + 1) 0) ⌝ }
-    ensures { λ r. ⌜ (now (area .exit) ≡ Step.stepBack Cipher.Hc128 (now (area .entry)) k) × (r ≡ getD (now (area .exit)) k 0) ⌝ }
-{
-    if b == 512 {
-        back_128_p(area, k, next)
-    } else {
-        back_128_q(area, k, next)
-    }
-}
-
-// Step k of HC-256 undone, where B begins at b and `next` is A[j+1]; the word restored. In each arm b is a constant.
-fn back_256(area: &mut [u32], b: usize, k: usize, next: u32) -> u32
-    requires { ⌜ (length (now area) ≡ 2048) × Inner 1024 k × (b ≡ startB 1024 (changesP 1024 k)) × (next ≡ getD (now area) (k + 1) 0) ⌝ }
-    ensures { λ r. ⌜ (now (area .exit) ≡ Step.stepBack Cipher.Hc256 (now (area .entry)) k) × (r ≡ getD (now (area .exit)) k 0) ⌝ }
-{
-    if b == 1024 {
-        back_256_at(area, 1024, k, next)
-    } else {
-        back_256_at(area, 0, k, next)
-    }
-}
-
-// The steps k to k + n - 1 of HC-128, where B begins at b.
-fn advance_128(area: &mut [u32], b: usize, k: usize, n: usize)
-    requires { ⌜ (length (now area) ≡ 1024) × Run.Run 512 k n × (k < 1024) × (b ≡ startB 512 (changesP 512 k)) ⌝ }
-    ensures { λ _. ⌜ now (area .exit) ≡ forward (Step.step Cipher.Hc128) (now (area .entry)) k n ⌝ }
-{
-    let mut m = 0;
-    while m < n {
-        word_128(area, b, k + m);
-        m += 1;
-    }
-}
-
-// The steps k to k + n - 1 of HC-256, where B begins at b.
-fn advance_256(area: &mut [u32], b: usize, k: usize, n: usize)
-    requires { ⌜ (length (now area) ≡ 2048) × Run.Run 1024 k n × (k < 2048) × (b ≡ startB 1024 (changesP 1024 k)) ⌝ }
-    ensures { λ _. ⌜ now (area .exit) ≡ forward (Step.step Cipher.Hc256) (now (area .entry)) k n ⌝ }
-{
-    let mut m = 0;
-    while m < n {
-        word_256(area, b, k + m);
-        m += 1;
-    }
-}
-
-// The steps k to k + n - 1 of HC-128 undone, last first, where B begins at b.
-fn retreat_128(area: &mut [u32], b: usize, k: usize, n: usize)
-    requires { ⌜ (length (now area) ≡ 1024) × Run.Run 512 k n × (k < 1024) × (b ≡ startB 512 (changesP 512 k)) ⌝ }
-    ensures { λ _. ⌜ now (area .exit) ≡ backward (Step.stepBack Cipher.Hc128) (now (area .entry)) k n ⌝ }
-{
-    let mut m = n;
-    let mut next = area[k + n];
-    while 0 < m {
-        m -= 1;
-        next = back_128(area, b, k + m, next);
-    }
-}
-
-// The steps k to k + n - 1 of HC-256 undone, last first, where B begins at b.
-fn retreat_256(area: &mut [u32], b: usize, k: usize, n: usize)
-    requires { ⌜ (length (now area) ≡ 2048) × Run.Run 1024 k n × (k < 2048) × (b ≡ startB 1024 (changesP 1024 k)) ⌝ }
-    ensures { λ _. ⌜ now (area .exit) ≡ backward (Step.stepBack Cipher.Hc256) (now (area .entry)) k n ⌝ }
-{
-    let mut m = n;
-    let mut next = area[k + n];
-    while 0 < m {
-        m -= 1;
-        next = back_256(area, b, k + m, next);
-    }
-}
-
-// Where B begins at step i.
-pub fn start_b(cipher: Cipher, i: usize) -> usize
-    ensures { λ r. ⌜ r ≡ startB (tableLength cipher) (changesP (tableLength cipher) i) ⌝ }
-{
-    match cipher {
-        Cipher::Hc128 => if i % 1024 < 512 { 512 } else { 0 },
-        Cipher::Hc256 => if i % 2048 < 1024 { 1024 } else { 0 },
-    }
 }
 
 // The index j of step i.
 fn index(cipher: Cipher, i: usize) -> usize
     ensures { λ r. ⌜ (r ≡ i % tableLength cipher) × (r < tableLength cipher) ⌝ }
 {
-    match cipher {
-        Cipher::Hc128 => i % 512,
-        Cipher::Hc256 => i % 1024,
-    }
-}
-
-// The words of a table.
-fn table_words(cipher: Cipher) -> usize
-    ensures { λ r. ⌜ r ≡ tableLength cipher ⌝ }
-{
-    match cipher {
-        Cipher::Hc128 => 512,
-        Cipher::Hc256 => 1024,
-    }
+    i % cipher::table_words(cipher)
 }
 
 // How many steps from step i on are a run.
@@ -214,7 +75,7 @@ pub fn run_from(cipher: Cipher, i: usize) -> usize
     if j < 12 {
         return 0;
     }
-    table_words(cipher) - 1 - j
+    cipher::table_words(cipher) - 1 - j
 }
 
 // How many steps before step i are a run.
@@ -233,11 +94,12 @@ pub fn advance(cipher: Cipher, area: &mut [u32], i: usize, n: usize)
     requires { ⌜ (length (now area) ≡ areaLength cipher) × Run.Run (tableLength cipher) i n ⌝ }
     ensures { λ _. ⌜ now (area .exit) ≡ forward (Step.step cipher) (now (area .entry)) i n ⌝ }
 {
-    let b = start_b(cipher, i);
+    let p = tables::changes_p(cipher, i);
     let k = tables::place(cipher, i);
-    match cipher {
-        Cipher::Hc128 => advance_128(area, b, k, n),
-        Cipher::Hc256 => advance_256(area, b, k, n),
+    let mut m = 0;
+    while m < n {
+        step(cipher, area, p, k + m);
+        m += 1;
     }
 }
 
@@ -246,10 +108,12 @@ pub fn retreat(cipher: Cipher, area: &mut [u32], i: usize, n: usize)
     requires { ⌜ (length (now area) ≡ areaLength cipher) × Run.Run (tableLength cipher) i n ⌝ }
     ensures { λ _. ⌜ now (area .exit) ≡ backward (Step.stepBack cipher) (now (area .entry)) i n ⌝ }
 {
-    let b = start_b(cipher, i);
+    let p = tables::changes_p(cipher, i);
     let k = tables::place(cipher, i);
-    match cipher {
-        Cipher::Hc128 => retreat_128(area, b, k, n),
-        Cipher::Hc256 => retreat_256(area, b, k, n),
+    let mut m = n;
+    let mut next = area[k + n];
+    while 0 < m {
+        m -= 1;
+        next = step_back(cipher, area, p, k + m, next);
     }
 }

@@ -3,7 +3,7 @@
 use mathlib.Core.Path.{_≡_, refl, sym, _∙_}
 use mathlib.Core.List.{List, []}
 use mathlib.Core.Logic.{⊎-elim}
-use Prim.Native.Nat.{ℕ, zero, suc, _+_, _-_, _/_, _%_, _^_, _≤_, _<_}
+use Prim.Native.Nat.{ℕ, zero, suc, _+_, _-_, _*_, _/_, _%_, _^_, _≤_, _<_}
 use native.Mathlib.Nat.{eq-or-lt-of-le}
 use native.Mathlib.Omega.{arith}
 use lib.ListN.{length, getD, take, length-append, length-drop, List·getD-append}
@@ -15,9 +15,10 @@ use Rattle.cipher.specs.declared.Cipher.the-variants.{Hc128, Hc256}
 use Rattle.cipher.specs.Numbers.{tableLength, areaLength, expansionLength}
 use Rattle.schedule.specs.Expansion.{nextWord, expansion, filled}
 
--- half a table is a multiple of sixteen words, and the expansion ends where the area does
+-- half a table is a multiple of sixteen words, two at least; an area is four of them, and the expansion five
 pub sizes : (c : Cipher)
-    → (16 ≤ tableLength c / 2) × (tableLength c / 2 % 16 ≡ 0) × (tableLength c / 2 + areaLength c ≡ expansionLength c) × (expansionLength c ≤ 4096)
+    → (32 ≤ tableLength c / 2) × (tableLength c / 2 % 16 ≡ 0) × (tableLength c / 2 + areaLength c ≡ expansionLength c) × (expansionLength c ≤ 4096)
+    × (tableLength c / 2 ≤ 512) × (tableLength c / 2 % 4 ≡ 0) × (areaLength c ≡ 4 * (tableLength c / 2)) × (expansionLength c ≡ 5 * (tableLength c / 2))
 sizes Hc128 = omega arith
 sizes Hc256 = omega arith
 

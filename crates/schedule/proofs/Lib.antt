@@ -1,5 +1,5 @@
 pub mod Expansion
 pub mod Unexpansion
 pub mod Window
-pub mod Sixteen
+pub mod Run
 pub mod Pair

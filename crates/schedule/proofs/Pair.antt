@@ -11,10 +11,10 @@ use Rattle.word.specs.Bytes.{AllWords}
 use Rattle.cipher.specs.declared.Cipher.{Cipher}
 use Rattle.cipher.specs.Numbers.{areaLength}
 use Rattle.schedule.specs.Expansion.{filled}
-use Rattle.schedule.specs.Key.{Pair, sixteen, keyOf, ivOf}
+use Rattle.keys.specs.Key.{Pair, sixteen, keyOf, ivOf}
 use Rattle.schedule.specs.Origin.{origin, isFilled}
 use Rattle.schedule.proofs.Unexpansion.{origin-filled, origin-length, origin-words}
-use Rattle.schedule.proofs.Sixteen.{sixteen-length, sixteen-words, sixteen-doubled, sixteen-back, key-back, iv-back, pair-back}
+use Rattle.keys.proofs.Sixteen.{sixteen-length, sixteen-words, sixteen-doubled, sixteen-back, key-back, iv-back, pair-back}
 
 module _ (c : Cipher) (k v : List ℕ) (pair : Pair c k v) where
   -- the area of a key and an IV leads back to their sixteen words, and answers true

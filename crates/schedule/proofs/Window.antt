@@ -1,20 +1,18 @@
--- A window holds the sixteen words Wn..W(n+15) of a list that follows the rule of Wi, Wi at place i mod 16, however far it is moved either way.
--- Assumes nothing.
+-- A window holds the sixteen words Wn..W(n+15) of a list, Wi at place i mod 16, however far it is moved back. Assumes nothing.
 use mathlib.Core.Path.{_≡_, sym, ap, _∙_}
 use mathlib.Core.List.{List}
 use mathlib.Core.Logic.{⊎-elim}
-use Prim.Native.Nat.{ℕ, zero, suc, _+_, _-_, _/_, _%_, _≤_, _<_}
-use native.Mathlib.Nat.{zero-add, add-zero, add-suc, eq-or-lt-of-le}
+use Prim.Native.Nat.{ℕ, zero, suc, _+_, _/_, _%_, _≤_, _<_}
+use native.Mathlib.Nat.{eq-or-lt-of-le}
 use native.Mathlib.Omega.{arith}
-use lib.ListN.{length, getD, set, take, drop, length-set, length-drop}
+use lib.ListN.{length, getD, set, take, drop, length-set}
 use lib.Seq.{getD-set-same, getD-set-other, getD-drop, getD-take, ext-getD, length-take-le}
-use Rattle.laws.specs.Iterate.{forward, backward}
+use Rattle.laws.specs.Iterate.{backward}
 use Rattle.cipher.specs.declared.Cipher.{Cipher}
-use Rattle.cipher.specs.Numbers.{tableLength, areaLength, expansionLength}
-use Rattle.schedule.specs.Expansion.{nextWord, expansion, filled}
+use Rattle.cipher.specs.Numbers.{tableLength, areaLength}
 use Rattle.schedule.specs.Origin.{previousWord, unexpansion, origin}
-use Rattle.schedule.specs.Window.{next, previous, made}
-use Rattle.schedule.proofs.Expansion.{sizes, Follows, expansion-length, expansion-follows, expansion-first}
+use Rattle.schedule.specs.Window.{previous}
+use Rattle.schedule.proofs.Expansion.{sizes}
 use Rattle.schedule.proofs.Unexpansion.{unexpansion-length, unexpansion-at, unexpansion-previous}
 
 -- the window v holds Wn..W(n+15) of W
@@ -25,18 +23,8 @@ pub record Holds (W v : List ℕ) (n : ℕ) : Type 0 where
 place-below : (n l : ℕ) → l ≡ 16 → n % 16 < l
 place-below n l e = omega arith
 
--- the window with Wi for W(i-16), or the other way round
+-- the window with W(i-16) for Wi
 module _ (W v : List ℕ) (n x : ℕ) where
-  set-next : Holds W v n → x ≡ getD W (16 + n) 0 → Holds W (set v ((16 + n) % 16) x) (suc n)
-  set-next h e = record {
-    long = simp length-set (h .long);
-    words = λ i lo hi.
-        ⊎-elim
-        (λ q. rw q (getD-set-same v ((16 + n) % 16) x 0 (place-below (16 + n) _ (h .long)) ∙ e))
-        (λ l. getD-set-other v ((16 + n) % 16) (i % 16) x 0 (λ q. omega arith) ∙ h .words i (omega arith) l)
-        (eq-or-lt-of-le (omega arith));
-  }
-
   set-previous : Holds W v (suc n) → x ≡ getD W n 0 → Holds W (set v ((16 + n) % 16) x) n
   set-previous h e = record {
     long = simp length-set (h .long);
@@ -53,17 +41,6 @@ held : (W v : List ℕ) (n : ℕ) → Holds W v n → (i j : ℕ) → i % 16 ≡
 held W v n h i j e lo hi = rw e (h .words j lo hi)
 
 module _ (W v : List ℕ) (n : ℕ) where
-  next-holds : getD W (16 + n) 0 ≡ nextWord W (16 + n) → Holds W v n → Holds W (next v (16 + n)) (suc n)
-  unfolding next nextWord
-  next-holds e h =
-      set-next W v n _ h
-      (rw (
-        held W v n h (16 + n + 14) (16 + n - 2) (omega arith) (omega arith) (omega arith),
-        held W v n h (16 + n + 9) (16 + n - 7) (omega arith) (omega arith) (omega arith),
-        held W v n h (16 + n + 1) (16 + n - 15) (omega arith) (omega arith) (omega arith),
-        held W v n h (16 + n) (16 + n - 16) (omega arith) (omega arith) (omega arith),
-      ) (sym e))
-
   previous-holds : previousWord (drop (suc n) W) n ≡ getD W n 0 → Holds W v (suc n) → Holds W (previous v (16 + n)) n
   unfolding previous previousWord
   previous-holds e h =
@@ -77,15 +54,7 @@ module _ (W v : List ℕ) (n : ℕ) where
         at (16 + n + 1) 0 (omega arith) (omega arith),
       ) e)
 
--- the window moved n words on, and n words back
-pub forward-holds : (W : List ℕ) (m : ℕ) → Follows W m → (v : List ℕ) (a n : ℕ) → a + n ≤ m → Holds W v a
-    → Holds W (forward next v (16 + a) n) (a + n)
-unfolding forward
-forward-holds W m follows v a zero l h = rw add-zero h
-forward-holds W m follows v a (suc n) l h =
-    let e : 16 + a + n ≡ 16 + (a + n) = omega arith in
-    rw (add-suc, e) (next-holds W _ (a + n) (follows (a + n) (omega arith)) (forward-holds W m follows v a n (omega arith) h))
-
+-- the window moved n words back
 pub backward-holds : (W : List ℕ) (n : ℕ) → ((i : ℕ) → i < n → previousWord (drop (suc i) W) i ≡ getD W i 0) → (v : List ℕ) → Holds W v n
     → Holds W (backward previous v 16 n) 0
 unfolding backward
@@ -94,27 +63,6 @@ backward-holds W (suc n) back v h =
     backward-holds W n (λ i l. back i (omega arith)) (previous v (16 + n)) (previous-holds W v n (back n (omega arith)) h)
 
 -- ---- an area
-
--- the words made from the window before W(T/2) fill the area
-pub filled-made : (c : Cipher) (w v a : List ℕ) → length w ≡ 16 → v ≡ forward next w 16 (tableLength c / 2 - 16) → length a ≡ areaLength c
-    → ((j : ℕ) → j < areaLength c → getD a j 0 ≡ made v (tableLength c / 2) j) → a ≡ filled c w
-unfolding filled made
-filled-made c w v a sixteen start long words =
-    let z = sizes c in
-    let half = tableLength c / 2 in
-    let m = expansionLength c - 16 in
-    let W = expansion w m in
-    let first : Holds W w 0 = record {
-      long = sixteen;
-      words = λ i lo hi. let e : i % 16 ≡ i = omega arith in rw e (sym (expansion-first w sixteen m i (omega arith)));
-    } in
-    let follows : Follows W m = expansion-follows w sixteen m in
-    let before : Holds W v (half - 16) = rw start (rw zero-add at (forward-holds W m follows w 0 (half - 16) (omega arith) first)) in
-    let e : 16 + (half - 16) ≡ half = omega arith in
-    let word : (j : ℕ) → j < areaLength c → getD (forward next v half (j + 1)) ((half + j) % 16) 0 ≡ getD W (half + j) 0 = λ j l.
-    (rw e at (forward-holds W m follows v (half - 16) (j + 1) (omega arith) before)) .words (half + j) (omega arith) (omega arith) in
-    ext-getD 0 a (drop half W) (rw (length-drop, expansion-length w sixteen m) (omega arith))
-    (λ j l. words j (omega arith) ∙ word j (omega arith) ∙ sym (getD-drop half W j 0))
 
 -- the place of Wi in the first window of an area
 first-place : (h i : ℕ) → h % 16 ≡ 0 → h ≤ i → i < 16 + h → i ≡ h + i % 16

@@ -1,4 +1,3 @@
 pub mod Expansion
-pub mod Key
 pub mod Origin
 pub mod Window

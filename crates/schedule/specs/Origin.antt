@@ -8,7 +8,7 @@ use Rattle.word.specs.Word.{f1, f2, _⊞_, _⊟_}
 use Rattle.cipher.specs.declared.Cipher.{Cipher}
 use Rattle.cipher.specs.Numbers.{tableLength}
 use Rattle.schedule.specs.Expansion.{filled}
-use Rattle.schedule.specs.Key.{doubled}
+use Rattle.keys.specs.Key.{doubled}
 
 -- Wn, from the list l of the words after it: W(n+16) less what the expansion added to Wn
 unfoldable pub previousWord : List ℕ → ℕ → ℕ

@@ -1,15 +1,14 @@
-// The key schedule: key and IV to W0..15, the expansion that fills a table area, and both undone.
+// The expansion of W0..15, which fills a table area, and its inverse.
 ghost use mathlib.Core.Path.{_≡_};
-ghost use Prim.Native.Nat.{ℕ, _+_, _-_, _*_, _/_, _<_, _≤_};
-ghost use lib.ListN.{length, take, drop, getD};
-ghost use Rattle.laws.specs.Iterate.{forward, backward};
+ghost use mathlib.Core.List.{_++_};
+ghost use Prim.Native.Nat.{_+_, _-_, _%_, _≤_};
+ghost use lib.ListN.{length, take, drop};
+ghost use Rattle.laws.specs.Iterate.{backward};
 ghost use Rattle.laws.specs.Same.{same};
 ghost use Rattle.word.specs.Word as Word;
 ghost use Rattle.word.specs.Word.{_⊞_, _⊟_};
-ghost use Rattle.word.specs.Bytes as Bytes;
-ghost use Rattle.cipher.specs.Numbers.{tableLength, areaLength, keyLength, ivLength};
+ghost use Rattle.cipher.specs.Numbers.{areaLength};
 ghost use Rattle.schedule.specs.Expansion as Expansion;
-ghost use Rattle.schedule.specs.Key as Key;
 ghost use Rattle.schedule.specs.Origin as Origin;
 ghost use Rattle.schedule.specs.Window as Window;
 use cipher::Cipher;
@@ -34,27 +33,6 @@ fn previous_word(w: u32, w2: u32, w7: u32, w15: u32, i: u32) -> u32
     )
 }
 
-// The window n words on; the first of them is Wi.
-fn expand(w: [u32; 16], i: usize, n: usize) -> [u32; 16]
-    requires { ⌜ i + n ≤ 4096 ⌝ }
-    ensures { λ r. ⌜ r ≡ forward Window.next w i n ⌝ }
-{
-    let mut v = w;
-    let mut k = 0;
-    while k < n {
-        let at = i + k;
-        v[at % 16] = next_word(
-            v[(at + 14) % 16],
-            v[(at + 9) % 16],
-            v[(at + 1) % 16],
-            v[at % 16],
-            at as u32,
-        );
-        k += 1;
-    }
-    v
-}
-
 // The window n words back; the last that is undone is Wi.
 fn unexpand(w: [u32; 16], i: usize, n: usize) -> [u32; 16]
     requires { ⌜ i + n ≤ 4096 ⌝ }
@@ -76,58 +54,112 @@ fn unexpand(w: [u32; 16], i: usize, n: usize) -> [u32; 16]
     v
 }
 
-// The window as many words on as the area has, with these words stored in the area; the first of them is Wi.
-fn expand_into(w: [u32; 16], i: usize, area: &mut [u32]) -> [u32; 16]
-    requires { ⌜ i + length (now area) ≤ 4096 ⌝ }
-    ensures { λ r. ⌜ (r ≡ forward Window.next w i (length (now (area .entry)))) × ((j : ℕ) → j < length (now (area .entry)) → getD (now (area .exit)) j 0 ≡ Window.made w i j) ⌝ }
+// T/2.
+fn half_table(cipher: Cipher) -> usize
+    ensures { λ r. ⌜ Window.IsHalf cipher r ⌝ }
 {
-    let mut v = w;
-    let mut j = 0;
-    while j < area.len() {
-        let at = i + j;
-        v[at % 16] = next_word(
-            v[(at + 14) % 16],
-            v[(at + 9) % 16],
-            v[(at + 1) % 16],
-            v[at % 16],
-            at as u32,
-        );
-        area[j] = v[at % 16];
-        j += 1;
+    cipher::table_words(cipher) / 2
+}
+
+// Lays sixteen words at the start of others.
+fn lay(w: [u32; 16], words: &mut [u32])
+    requires { ⌜ 16 ≤ length (now words) ⌝ }
+    ensures { λ _. ⌜ take 16 (now (words .exit)) ≡ w ⌝ }
+{
+    let mut k = 0;
+    while k < 16 {
+        words[k] = w[k];
+        k += 1;
+    }
+}
+
+// Sixteen words from place k on.
+fn sixteen_from(words: &[u32], k: usize) -> [u32; 16]
+    requires { ⌜ k + 16 ≤ length (now words) ⌝ }
+    ensures { λ r. ⌜ r ≡ take 16 (drop k (now (words .entry))) ⌝ }
+{
+    let mut v = [0u32; 16];
+    let mut m = 0;
+    while m < 16 {
+        v[m] = words[k + m];
+        m += 1;
     }
     v
 }
 
-// T/2.
-fn half_table(cipher: Cipher) -> usize
-    ensures { λ r. ⌜ (r ≡ tableLength cipher / 2) × (16 ≤ r) × (r + areaLength cipher ≤ 4096) ⌝ }
+// The word at place k, made of words before it, where the first word is Wn and w2 the word at place k - 2.
+fn next_at(words: &[u32], k: usize, w2: u32, n: usize) -> u32
+    requires { ⌜ (16 ≤ k) × (k ≤ length (now words)) × (n + k ≤ 4096) ⌝ }
+    ensures { λ r. ⌜ r ≡ Window.nextAt (now (words .entry)) k w2 n ⌝ }
 {
-    let row = cipher::row_of(cipher);
-    row.table / 2
+    next_word(
+        w2,
+        words[k - 7],
+        words[k - 15],
+        words[k - 16],
+        (n + k) as u32,
+    )
 }
 
-// Fills the area with the expansion of W0..15, from W(T/2) on.
+// Makes each word from the seventeenth on of the sixteen before it, where the first word is Wn: four in a row, the last two carried.
+fn go_on(words: &mut [u32], n: usize)
+    requires { ⌜ (16 ≤ length (now words)) × (length (now words) % 4 ≡ 0) × (n + length (now words) ≤ 4096) ⌝ }
+    ensures { λ _. ⌜ (take 16 (now (words .exit)) ≡ take 16 (now (words .entry))) × Window.Run n (now (words .exit)) ⌝ }
+{
+    let mut w2 = words[14];
+    let mut w1 = words[15];
+    let mut k = 16;
+    while k < words.len() {
+        w2 = next_at(words, k, w2, n);
+        words[k] = w2;
+        w1 = next_at(words, k + 1, w1, n);
+        words[k + 1] = w1;
+        w2 = next_at(words, k + 2, w2, n);
+        words[k + 2] = w2;
+        w1 = next_at(words, k + 3, w1, n);
+        words[k + 3] = w1;
+        k += 4;
+    }
+}
+
+// The sixteen words after w, whose first is Wn.
+fn sixteen_more(w: [u32; 16], n: usize) -> [u32; 16]
+    requires { ⌜ n + 32 ≤ 4096 ⌝ }
+    ensures { λ r. ⌜ Window.Run n (w ++ r) ⌝ }
+{
+    let mut words = [0u32; 32];
+    lay(w, &mut words);
+    go_on(&mut words, n);
+    sixteen_from(&words, 16)
+}
+
+// Fills the area with the words after the sixteen words w, whose first is Wn, and hands back the last sixteen.
+fn expand(w: [u32; 16], n: usize, area: &mut [u32]) -> [u32; 16]
+    requires { ⌜ (16 ≤ length (now area)) × (length (now area) % 4 ≡ 0) × (n + 16 + length (now area) ≤ 4096) ⌝ }
+    ensures { λ r. ⌜ Window.Run n (w ++ now (area .exit)) × (r ≡ drop (length (now (area .exit)) - 16) (now (area .exit))) ⌝ }
+{
+    let first = sixteen_more(w, n);
+    lay(first, area);
+    go_on(area, n + 16);
+    sixteen_from(area, area.len() - 16)
+}
+
+// Lays the `count` words after the sixteen words w, whose first is Wn, at the start of the area, and hands back the last sixteen.
+fn expand_into(w: [u32; 16], n: usize, count: usize, area: &mut [u32]) -> [u32; 16]
+    requires { ⌜ (16 ≤ count) × (count % 4 ≡ 0) × (count ≤ length (now area)) × (n + 16 + count ≤ 4096) ⌝ }
+    ensures { λ r. ⌜ Window.Run n (w ++ take count (now (area .exit))) × (r ≡ drop (count - 16) (take count (now (area .exit)))) ⌝ }
+{
+    expand(w, n, &mut area[..count])
+}
+
+// Fills the area with the expansion of W0..15 from W(T/2) on; the words before W(T/2) are made in the area and do not stay.
 pub fn fill(cipher: Cipher, w: [u32; 16], area: &mut [u32])
     requires { ⌜ length (now area) ≡ areaLength cipher ⌝ }
     ensures { λ _. ⌜ now (area .exit) ≡ Expansion.filled cipher w ⌝ }
 {
     let half = half_table(cipher);
-    let v = expand(w, 16, half - 16);
-    expand_into(v, half, area);
-}
-
-// The first sixteen words of an area.
-fn first_window(area: &[u32]) -> [u32; 16]
-    requires { ⌜ 16 ≤ length (now area) ⌝ }
-    ensures { λ r. ⌜ r ≡ take 16 (now (area .entry)) ⌝ }
-{
-    let mut v = [0u32; 16];
-    let mut k = 0;
-    while k < 16 {
-        v[k] = area[k];
-        k += 1;
-    }
-    v
+    let v = expand_into(w, 0, half - 16, area);
+    expand_into(v, half - 16, cipher::expansion_words(cipher) - half, area);
 }
 
 // Whether all of the area is the expansion of the words that it leads back to: from the seventeenth on, each is made of those before it.
@@ -138,44 +170,13 @@ fn is_expansion(cipher: Cipher, area: &[u32]) -> bool
     let half = half_table(cipher);
     let mut k = 16;
     while k < area.len() {
-        let next = next_word(
-            area[k - 2],
-            area[k - 7],
-            area[k - 15],
-            area[k - 16],
-            (half + k) as u32,
-        );
+        let next = next_at(area, k, area[k - 2], half);
         if area[k] != next {
             return false;
         }
         k += 1;
     }
     true
-}
-
-// Whether the four words from place a on are the four from place b on.
-fn four_same(w: [u32; 16], a: usize, b: usize) -> bool
-    requires { ⌜ (a ≤ 12) × (b ≤ 12) ⌝ }
-    ensures { λ r. ⌜ r ≡ same (take 4 (drop a w)) (take 4 (drop b w)) ⌝ }
-{
-    let mut k = 0;
-    while k < 4 {
-        if w[a + k] != w[b + k] {
-            return false;
-        }
-        k += 1;
-    }
-    true
-}
-
-// Whether the words that have to stand twice do.
-fn doubled(cipher: Cipher, w: [u32; 16]) -> bool
-    ensures { λ r. ⌜ r ≡ Key.doubled cipher w ⌝ }
-{
-    match cipher {
-        Cipher::Hc128 => four_same(w, 0, 4) & four_same(w, 8, 12),
-        Cipher::Hc256 => true,
-    }
 }
 
 // Sixteen words, and whether they fill all of the area and stand twice where they have to.
@@ -190,61 +191,7 @@ pub fn origin(cipher: Cipher, area: &[u32]) -> Found
     ensures { λ r. ⌜ (r .words ≡ Origin.origin cipher (now (area .entry))) × (r .filled ≡ Origin.isFilled cipher (now (area .entry))) ⌝ }
 {
     let half = half_table(cipher);
-    let words = unexpand(first_window(area), 16, half);
-    let filled = is_expansion(cipher, area) & doubled(cipher, words);
+    let words = unexpand(sixteen_from(area, 0), 16, half);
+    let filled = is_expansion(cipher, area) & keys::doubled(cipher, words);
     Found { words, filled }
-}
-
-// Word k of a string of bytes.
-fn word_at(b: &[u8], k: usize) -> u32
-    requires { ⌜ (4 * k + 3 < length (now b)) × (k < 16) ⌝ }
-    ensures { λ r. ⌜ r ≡ getD (Bytes.words (now (b .entry))) k 0 ⌝ }
-{
-    let at = 4 * k;
-    word::from_bytes(b[at], b[at + 1], b[at + 2], b[at + 3])
-}
-
-// The words of a key, and of an IV.
-fn key_words(cipher: Cipher) -> usize
-    ensures { λ r. ⌜ (r ≡ keyLength cipher / 4) × (0 < r) × (r ≤ 8) × (4 * r ≡ keyLength cipher) × (4 * r ≡ ivLength cipher) ⌝ }
-{
-    let row = cipher::row_of(cipher);
-    row.key / 4
-}
-
-// W0..15 of a key and an IV.
-pub fn sixteen_words(cipher: Cipher, key: &[u8], iv: &[u8]) -> [u32; 16]
-    requires { ⌜ (length (now key) ≡ keyLength cipher) × (length (now iv) ≡ ivLength cipher) ⌝ }
-    ensures { λ r. ⌜ r ≡ Key.sixteen cipher (now (key .entry)) (now (iv .entry)) ⌝ }
-{
-    let n = key_words(cipher);
-    let mut w = [0u32; 16];
-    let mut k = 0;
-    while k < 8 {
-        w[k] = word_at(key, k % n);
-        w[8 + k] = word_at(iv, k % n);
-        k += 1;
-    }
-    w
-}
-
-// Fills `out` with the bytes of the words of w from place `from` on.
-fn store_bytes(w: [u32; 16], from: usize, out: &mut [u8])
-    requires { ⌜ (from ≤ 8) × (length (now out) ≤ 32) × (4 * (length (now out) / 4) ≡ length (now out)) ⌝ }
-    ensures { λ _. ⌜ now (out .exit) ≡ Bytes.bytes (take (length (now (out .entry)) / 4) (drop from w)) ⌝ }
-{
-    let mut j = 0;
-    while j < out.len() {
-        out[j] = word::byte(w[from + j / 4], (j % 4) as u32) as u8;
-        j += 1;
-    }
-}
-
-// Fills the two buffers with the key and the IV of W0..15.
-pub fn store_key_and_iv(cipher: Cipher, w: [u32; 16], key: &mut [u8], iv: &mut [u8])
-    requires { ⌜ (length (now key) ≡ keyLength cipher) × (length (now iv) ≡ ivLength cipher) ⌝ }
-    ensures { λ _. ⌜ (now (key .exit) ≡ Key.keyOf cipher w) × (now (iv .exit) ≡ Key.ivOf cipher w) ⌝ }
-{
-    store_bytes(w, 0, key);
-    store_bytes(w, 8, iv);
 }

@@ -7,10 +7,10 @@ use native.Mathlib.Omega.{arith}
 use Rattle.cipher.specs.declared.Cipher.{Cipher}
 use Rattle.tables.specs.Area.{Area}
 use Rattle.schedule.specs.Expansion.{filled}
-use Rattle.schedule.specs.Key.{Pair, sixteen, keyOf, ivOf}
+use Rattle.keys.specs.Key.{Pair, sixteen, keyOf, ivOf}
 use Rattle.schedule.specs.Origin.{origin, isFilled}
 use Rattle.schedule.proofs.Expansion.{filled-length, filled-words}
-use Rattle.schedule.proofs.Sixteen.{sixteen-length, sixteen-words, key-back, iv-back}
+use Rattle.keys.proofs.Sixteen.{sixteen-length, sixteen-words, key-back, iv-back}
 use Rattle.schedule.proofs.Pair.{origin-sixteen, sixteen-filled, origin-pair, filled-origin}
 use Rattle.last_pass.specs.LastPass.{undoLastPass}
 use Rattle.last_pass.proofs.Inverse.{last-pass-area, undo-last-pass-area, last-pass-undone, last-pass-redone}

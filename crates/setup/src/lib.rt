@@ -2,8 +2,6 @@
 ghost use mathlib.Core.Path.{_≡_};
 ghost use lib.ListN.{length};
 ghost use Rattle.cipher.specs.Numbers.{areaLength, keyLength, ivLength};
-ghost use Rattle.schedule.specs.Origin.{origin, isFilled};
-ghost use Rattle.last_pass.specs.LastPass.{undoLastPass};
 ghost use Rattle.setup.specs.SetUp as SetUp;
 use cipher::Cipher;
 use schedule::Found;
@@ -13,7 +11,7 @@ pub fn set_up(cipher: Cipher, key: &[u8], iv: &[u8], area: &mut [u32])
     requires { ⌜ (length (now key) ≡ keyLength cipher) × (length (now iv) ≡ ivLength cipher) × (length (now area) ≡ areaLength cipher) ⌝ }
     ensures { λ _. ⌜ now (area .exit) ≡ SetUp.setUp cipher (now (key .entry)) (now (iv .entry)) ⌝ }
 {
-    let w = schedule::sixteen_words(cipher, key, iv);
+    let w = keys::sixteen_words(cipher, key, iv);
     schedule::fill(cipher, w, area);
     last_pass::last_pass(cipher, area);
 }
@@ -21,7 +19,7 @@ pub fn set_up(cipher: Cipher, key: &[u8], iv: &[u8], area: &mut [u32])
 // The last pass undone in the area, and the sixteen words that the filled area leads back to.
 pub fn undo_set_up(cipher: Cipher, area: &mut [u32]) -> Found
     requires { ⌜ length (now area) ≡ areaLength cipher ⌝ }
-    ensures { λ r. ⌜ (now (area .exit) ≡ undoLastPass cipher (now (area .entry))) × (r .words ≡ origin cipher (undoLastPass cipher (now (area .entry)))) × (r .filled ≡ isFilled cipher (undoLastPass cipher (now (area .entry)))) ⌝ }
+    ensures { λ r. ⌜ SetUp.LedBack cipher (now (area .entry)) (now (area .exit)) r ⌝ }
 {
     last_pass::undo_last_pass(cipher, area);
     schedule::origin(cipher, area)

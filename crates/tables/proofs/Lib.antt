@@ -3,3 +3,4 @@ pub mod Kept
 pub mod Change
 pub mod Inverse
 pub mod Turns
+pub mod Words

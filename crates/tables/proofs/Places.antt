@@ -3,7 +3,7 @@ use mathlib.Core.Path.{_≡_}
 use mathlib.Core.Logic.{_≢_, ⊎-elim}
 use mathlib.Core.Bool.{Bool, true, false}
 use mathlib.Core.List.{List}
-use Prim.Native.Nat.{ℕ, _+_, _%_, _<_}
+use Prim.Native.Nat.{ℕ, _+_, _%_, _≤_, _<_}
 use native.Mathlib.Omega.{arith}
 use borrow.Author.Tests.{lt-ltb, le-ltb}
 use lib.ListN.{set}
@@ -12,8 +12,13 @@ use Rattle.laws.proofs.Lists.{below-or-not}
 use Rattle.cipher.specs.declared.Cipher.{Cipher}
 use Rattle.cipher.specs.declared.Cipher.the-variants.{Hc128, Hc256}
 use Rattle.cipher.specs.Numbers.{tableLength, areaLength}
-use Rattle.tables.specs.Area.{changesP, startA, startB}
+use Rattle.functions.specs.Functions.{startB}
+use Rattle.tables.specs.Area.{changesP, startA}
 use Rattle.tables.specs.Step.{A, B, place}
+
+pub table-size : (c : Cipher) → (12 ≤ tableLength c) × (tableLength c ≤ 1024)
+table-size Hc128 = omega arith
+table-size Hc256 = omega arith
 
 pub place-is : (c : Cipher) (i : ℕ) → place c i ≡ i % areaLength c
 place-is Hc128 i = ⊎-elim (λ l. rw (lt-ltb (i % 1024) 512 l) (omega arith)) (λ l. rw (le-ltb (i % 1024) 512 l) (omega arith)) (below-or-not (i % 1024) 512)

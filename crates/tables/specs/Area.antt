@@ -4,7 +4,7 @@ use mathlib.Core.Bool.{Bool, true, false}
 use mathlib.Core.List.{List}
 use Prim.Native.Nat.{ℕ, _+_, _-_, _*_, _%_, _<_}
 use lib.Dec.{ltb}
-use lib.ListN.{length, getD}
+use lib.ListN.{length}
 use Rattle.word.specs.Bytes.{AllWords}
 use Rattle.cipher.specs.declared.Cipher.{Cipher}
 use Rattle.cipher.specs.Numbers.{areaLength}
@@ -19,18 +19,10 @@ pub record Area (c : Cipher) (s : List ℕ) : Type 0 where
 abbrev pub changesP : ℕ → ℕ → Bool
 changesP T i = ltb (i % (2 * T)) T
 
--- where the changing table A and the other table B begin, by whether P changes
+-- where the changing table A begins, by whether P changes
 abbrev pub startA : ℕ → Bool → ℕ
 startA T true = 0
 startA T false = T
-
-abbrev pub startB : ℕ → Bool → ℕ
-startB T true = T
-startB T false = 0
-
--- the table that begins at a place of the area, as a function of its index
-abbrev pub table : List ℕ → ℕ → ℕ → ℕ
-table s start k = getD s (start + k) 0
 
 -- 'with j = i mod T and indices modulo T': the five that a step reads; n below j modulo T is written (j + (T - n)) mod T. `Indices` in
 -- theorems/specs says that they are document 01's.

@@ -1,14 +1,14 @@
 -- Step i of a cipher on an area s, its inverse, and its output.
-use mathlib.Core.Bool.{Bool, true, false}
 use mathlib.Core.List.{List}
 use Prim.Native.Nat.{ℕ, _+_}
 use lib.ListN.{set}
-use Rattle.word.specs.Word.{_⊞_, _⊟_, _⊕_, R, L}
+use Rattle.word.specs.Word.{_⊞_, _⊟_, _⊕_}
 use Rattle.cipher.specs.declared.Cipher.{Cipher}
 use Rattle.cipher.specs.declared.Cipher.the-variants.{Hc128, Hc256}
 use Rattle.cipher.specs.Numbers.{tableLength}
-use Rattle.tables.specs.Area.{changesP, startA, startB, table, indicesAt}
-use Rattle.tables.specs.Functions.{feedback128, feedback256, h128, h256}
+use Rattle.functions.specs.Functions.{table, startB, rotation, g128, g256, h128, h256}
+use Rattle.tables.specs.declared.Indices.{Indices}
+use Rattle.tables.specs.Area.{changesP, startA, indicesAt}
 
 -- the changing table A and the other table B at step i, for tables of T words
 abbrev pub A : ℕ → List ℕ → ℕ → ℕ → ℕ
@@ -17,10 +17,13 @@ A T s i = table s (startA T (changesP T i))
 abbrev pub B : ℕ → List ℕ → ℕ → ℕ → ℕ
 B T s i = table s (startB T (changesP T i))
 
--- HC-128 rotates right in P and left in Q
-abbrev pub rotation : Bool → ℕ → ℕ → ℕ
-rotation true = R
-rotation false = L
+-- HC-128: 'A[j] grows by g(A[j-3], A[j-10], A[j+1])'
+abbrev pub feedback128 : (ℕ → ℕ → ℕ) → (ℕ → ℕ) → Indices → ℕ
+feedback128 rot A x = g128 rot (A (x .minus3)) (A (x .minus10)) (A (x .plus1))
+
+-- HC-256: 'A[j] grows by A[j-10] + g(A[j-3], A[j+1])'
+abbrev pub feedback256 : (ℕ → ℕ) → (ℕ → ℕ) → Indices → ℕ
+feedback256 A B x = A (x .minus10) ⊞ g256 B (A (x .minus3)) (A (x .plus1))
 
 -- what A[j] grows by at step i
 unfoldable pub feedback : Cipher → List ℕ → ℕ → ℕ

@@ -10,8 +10,8 @@ use Rattle.word.specs.Bytes.{AllBytes}
 use Rattle.cipher.specs.declared.Cipher.{Cipher}
 use Rattle.cipher.specs.Numbers.{byCode, codeOf, areaLength}
 use Rattle.tables.specs.Step.{step}
-use Rattle.schedule.specs.Key.{Pair}
-use Rattle.keystream.specs.Steps.{moved}
+use Rattle.keys.specs.Key.{Pair}
+use Rattle.steps.specs.Steps.{moved}
 use Rattle.setup.specs.SetUp as SetUp
 use Rattle.engine.specs.declared.Head.{Head}
 use Rattle.conditions.specs.Result.{Result, refused, accepted, outcome, _>>=_, refuse_without_}

@@ -13,7 +13,7 @@ use Rattle.cipher.specs.declared.Cipher.{Cipher}
 use Rattle.cipher.specs.Numbers.{codeOf, keyLength, ivLength}
 use Rattle.cipher.proofs.Codes.{code-of}
 use Rattle.tables.specs.Area.{Area}
-use Rattle.keystream.specs.Steps.{moved}
+use Rattle.steps.specs.Steps.{moved}
 use Rattle.keystream.specs.Keystream.{keystream, ciphered}
 use Rattle.keystream.proofs.Ciphered.{length-ciphered}
 use Rattle.keystream.proofs.Keystream.{ciphered-keystream}

@@ -1,7 +1,7 @@
 -- The way back is the exact inverse. Assumes nothing.
 use Rattle.tables.proofs.Inverse.{step-undone, step-redone}
 use Rattle.last_pass.proofs.Inverse.{last-pass-undone, last-pass-redone}
-use Rattle.keystream.proofs.Inverse.{steps-undone, steps-redone}
+use Rattle.steps.proofs.Inverse.{steps-undone, steps-redone}
 use Rattle.setup.proofs.Inverse.{set-up-undone, set-up-redone, set-up-unique, undo-none, none-undo}
 use Rattle.theorems.specs.Inverse.{Inverse}
 

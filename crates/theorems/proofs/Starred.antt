@@ -4,7 +4,7 @@ use Rattle.word.specs.Word.{f1, f2}
 use Rattle.word.specs.Bytes.{words}
 use Rattle.varint.specs.Number.{groups, number}
 use Rattle.schedule.specs.Expansion.{nextWord, expansion}
-use Rattle.schedule.specs.Key.{sixteen}
+use Rattle.keys.specs.Key.{sixteen}
 use Rattle.theorems.specs.Starred.{Starred, examples, zeroExpansion}
 
 pub starred : Starred

@@ -12,10 +12,10 @@ use Rattle.cipher.specs.declared.Cipher.{Cipher}
 use Rattle.cipher.specs.Numbers.{areaLength}
 use Rattle.tables.specs.Area.{Area}
 use Rattle.tables.specs.Step.{step}
-use Rattle.schedule.specs.Key.{Pair}
-use Rattle.keystream.specs.Steps.{steps, stepsBack, stepsAt, moved}
-use Rattle.keystream.proofs.Positions.{moved-up, moved-down}
-use Rattle.keystream.proofs.Inverse.{steps-area, steps-back-area, steps-undone, steps-redone}
+use Rattle.keys.specs.Key.{Pair}
+use Rattle.steps.specs.Steps.{steps, stepsBack, stepsAt, moved}
+use Rattle.steps.proofs.Moved.{moved-up, moved-down}
+use Rattle.steps.proofs.Inverse.{steps-area, steps-back-area, steps-undone, steps-redone}
 use Rattle.setup.specs.SetUp.{setUp, found}
 use Rattle.setup.proofs.Inverse.{set-up-area, set-up-undone, set-up-redone}
 use Rattle.conditions.specs.Conditions.{undoAt}

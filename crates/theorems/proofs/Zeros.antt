@@ -17,8 +17,8 @@ use Rattle.schedule.proofs.Expansion.{sizes}
 use Rattle.schedule.proofs.Unexpansion.{next-from, filled-follows}
 use Rattle.last_pass.specs.LastPass.{lastPass}
 use Rattle.last_pass.proofs.Inverse.{last-pass-area, last-pass-undone}
-use Rattle.keystream.specs.Steps.{steps, stepsBack, stepsAt}
-use Rattle.keystream.proofs.Inverse.{steps-area, steps-undone}
+use Rattle.steps.specs.Steps.{steps, stepsBack, stepsAt}
+use Rattle.steps.proofs.Inverse.{steps-area, steps-undone}
 use Rattle.setup.specs.SetUp.{undo, none}
 use Rattle.setup.proofs.Inverse.{undo-not-filled}
 

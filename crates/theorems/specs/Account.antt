@@ -7,8 +7,8 @@ use lib.ListN.{length}
 use Rattle.word.specs.Bytes.{AllBytes}
 use Rattle.cipher.specs.declared.Cipher.{Cipher}
 use Rattle.cipher.specs.Numbers.{codeOf}
-use Rattle.schedule.specs.Key.{Pair}
-use Rattle.keystream.specs.Steps.{steps, stepsAt}
+use Rattle.keys.specs.Key.{Pair}
+use Rattle.steps.specs.Steps.{steps, stepsAt}
 use Rattle.setup.specs.SetUp as SetUp
 use Rattle.conditions.specs.Result.{Result, refused, accepted}
 use Rattle.conditions.specs.Limit.{limit}

@@ -6,9 +6,9 @@ use Prim.Native.Nat.{ℕ}
 use Rattle.cipher.specs.declared.Cipher.{Cipher}
 use Rattle.tables.specs.Area.{Area}
 use Rattle.tables.specs.Step.{step, stepBack}
-use Rattle.schedule.specs.Key.{Pair}
+use Rattle.keys.specs.Key.{Pair}
 use Rattle.last_pass.specs.LastPass.{lastPass, undoLastPass}
-use Rattle.keystream.specs.Steps.{steps, stepsBack}
+use Rattle.steps.specs.Steps.{steps, stepsBack}
 use Rattle.setup.specs.SetUp.{setUp, undo, found, none}
 
 pub record Inverse : Type 0 where

@@ -8,8 +8,8 @@ use Rattle.word.specs.Bytes.{AllBytes, AllWords}
 use Rattle.cipher.specs.declared.Cipher.{Cipher}
 use Rattle.cipher.specs.Numbers.{codeOf, areaLength, keyLength, ivLength}
 use Rattle.tables.specs.Area.{Area}
-use Rattle.schedule.specs.Key.{Pair}
-use Rattle.keystream.specs.Steps.{steps, stepsAt}
+use Rattle.keys.specs.Key.{Pair}
+use Rattle.steps.specs.Steps.{steps, stepsAt}
 use Rattle.setup.specs.SetUp as SetUp
 use Rattle.checkpoint.specs.Checkpoint.{layout}
 use Rattle.engine.specs.declared.Head.{Head}

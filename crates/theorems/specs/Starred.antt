@@ -6,10 +6,10 @@ use lib.ListN.{getD, replicate}
 use Rattle.word.specs.Word.{f1, f2, R, L}
 use Rattle.varint.specs.Number.{number}
 use Rattle.cipher.specs.declared.Cipher.the-variants.{Hc128}
-use Rattle.tables.specs.Functions.{g128, h128, h256}
+use Rattle.functions.specs.Functions.{g128, h128, h256}
 use Rattle.schedule.specs.Expansion.{expansion}
-use Rattle.schedule.specs.Key.{sixteen}
-use Rattle.keystream.specs.Steps.{stepsAt}
+use Rattle.keys.specs.Key.{sixteen}
+use Rattle.steps.specs.Steps.{stepsAt}
 use Rattle.conditions.specs.Limit.{limit}
 
 -- what stands under one star: numbers, or strings of bytes

@@ -5,7 +5,7 @@ use Prim.Native.Nat.{ℕ, _+_, _<_}
 use lib.ListN.{length, getD}
 use Rattle.word.specs.Word.{_⊕_}
 use Rattle.cipher.specs.declared.Cipher.{Cipher}
-use Rattle.keystream.specs.Steps.{steps, stepsAt}
+use Rattle.steps.specs.Steps.{steps, stepsAt}
 use Rattle.keystream.specs.Keystream.{keystream, tablesAfter, ciphered}
 
 -- s are the tables that set-up leaves, so that `steps c s 0 (stepsAt p)` are those at position p

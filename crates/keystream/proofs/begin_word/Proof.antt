@@ -8,7 +8,7 @@ use denote.Ref.{now}
 use lib.ListN.{length}
 use Rattle.laws.proofs.Iterate.{forward-none, forward-one}
 use Rattle.tables.specs.Step.{output}
-use Rattle.keystream.specs.Steps.{stepsAt}
+use Rattle.steps.specs.Steps.{stepsAt}
 use Rattle.keystream.specs.Stores.{xorPart}
 use Rattle.keystream.proofs.begin_word.Statement.{statement}
 use Rattle.keystream.proofs.begin_word.Tie as tie

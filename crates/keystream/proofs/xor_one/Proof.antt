@@ -2,7 +2,7 @@
 use mathlib.Core.Path.{sym, _∙_}
 use borrow.Author.Needs.{needs}
 use Rattle.laws.proofs.Iterate.{forward-one}
-use Rattle.keystream.proofs.Runs.{first-word}
+use Rattle.keystream.proofs.Words.{first-word}
 use Rattle.keystream.proofs.xor_one.Statement.{statement}
 use Rattle.keystream.proofs.xor_one.Tie as tie
 

@@ -1,41 +1,47 @@
--- `keystream::xor_run` meets its contract: each arm starts at the place of its first A[j]. Assumes nothing.
+-- `keystream::xor_run` meets its contract. The loop's invariant: the area has taken m steps, and m words are done. Assumes nothing.
+use mathlib.Core.Path.{_∙_}
+use Prim.Native.Nat.{_-_}
+use native.Mathlib.Omega.{arith}
 use borrow.Author.Needs.{needs}
-use Rattle.cipher.specs.declared.Cipher.the-variants.{Hc128, Hc256}
-use Rattle.runs.proofs.Places.{run-given, steps-given}
-use Rattle.keystream.proofs.Runs.{words-given}
+use Rattle.runs.proofs.At.{at-step, end-inside, step-at-place, output-at-place}
+use Rattle.keystream.proofs.Words.{Words, words-start, words-turn, words-end}
 use Rattle.keystream.proofs.xor_run.Statement.{statement}
 use Rattle.keystream.proofs.xor_run.Tie as tie
 
-xor-run-128-requires : tie.Need-xor-run-128-requires
-xor-run-128-requires c κs =
-    let k = c .before .before .before .before in
-    let start = k .before .before .before .before in
-    let given = run-given Hc128 _ (c .before .before .enum-told .given .1) (k .place .ensures .0) (start .pre .0) (start .pre .1) (k .place .ensures .1) (k .before .start-b .ensures) in
-    (given .0, given .1, given .2, given .3, start .pre .2)
+abbrev Inv-loop : tie.InvT-loop
+Inv-loop cipher area₀ i bytes₀ start n p k m₀ area bytes m = Words cipher area₀ bytes₀ i start n area bytes m
 
-xor-run-256-requires : tie.Need-xor-run-256-requires
-xor-run-256-requires c κs =
-    let k = c .before .before .before .before in
-    let start = k .before .before .before .before in
-    let given = run-given Hc256 _ (c .before .before .enum-told2 .given .1) (k .place .ensures .0) (start .pre .0) (start .pre .1) (k .place .ensures .1) (k .before .start-b .ensures) in
-    (given .0, given .1, given .2, given .3, start .pre .2)
+abbrev μ-loop : tie.MeasureT-loop
+μ-loop cipher area₀ i bytes₀ start n p k m₀ area bytes m = n - m
 
-returns : tie.Need-returns
-returns c =
-    let ran = c .before .before .before .before in
-    let e = ran .before .before .before .enum-told .given .1 in
-    let p = ran .before .before .before .before .before .place .ensures .0 in
-    (steps-given Hc128 _ e p _ _ (ran .xor-run-128 .ensures .0), words-given Hc128 _ e p _ _ _ _ (ran .xor-run-128 .ensures .1))
+add-word : tie.Need-add-word Inv-loop μ-loop
+add-word c =
+    let place = c .before .before .before in
+    let start = place .before .before .before .before in
+    omega (arith, end-inside (start .args .cipher) (start .pre .1) (place .place .ensures .0) .1, c .before .loop-test .taken)
 
-returns-2 : tie.Need-returns-2
-returns-2 c =
-    let ran = c .before .before .before .before in
-    let e = ran .before .before .before .enum-told2 .given .1 in
-    let p = ran .before .before .before .before .before .place .ensures .0 in
-    (steps-given Hc256 _ e p _ _ (ran .xor-run-256 .ensures .0), words-given Hc256 _ e p _ _ _ _ (ran .xor-run-256 .ensures .1))
+word-requires : tie.Need-word-requires Inv-loop μ-loop
+word-requires c κs =
+    let turn = c .before in
+    let place = turn .before .before in
+    let start = place .before .before .before .before in
+    at-step (start .args .cipher) (start .pre .1) (place .place .ensures .0) _ (turn .loop-test .taken)
+    (turn .before .loop .inv .0 .sized ∙ start .pre .0) (place .before .changes-p .ensures)
+
+loop-again : tie.Need-loop-again Inv-loop μ-loop
+loop-again c =
+    let put = c .before .before .xor-word in
+    let ran = c .before .before .before .before .before .before .word in
+    let turn = c .before .before .before .before .before .before .before .before in
+    let place = turn .before .before in
+    let cipher = place .before .before .before .before .args .cipher in
+    words-turn cipher _ _ _ _ _ (turn .before .loop .inv) (turn .loop-test .taken)
+    (step-at-place cipher _ (place .place .ensures .0) _ _ (ran .ensures .0)) (ran .kept .1 .0)
+    (output-at-place cipher _ (place .place .ensures .0) _ _ (ran .ensures .1)) (put .ensures) (put .kept .0)
 
 pub xor-run-spec : {M : Type 1} → statement M
 xor-run-spec =
-    let a₁ = tie.spec (λ c κs. search needs) (λ c κs. search needs) (λ c. search needs) xor-run-128-requires (λ c. search needs) in
-    let a₂ = a₁ xor-run-256-requires (λ c. search needs) (λ c. search needs) returns (λ c. search needs) (λ c. search needs) in
-    tie.close (a₂ returns-2)
+    let a₁ = tie.spec Inv-loop μ-loop (λ c κs. search needs) (λ c κs. search needs) (λ c. words-start _ _ _ _ _ _) add-word word-requires in
+    let a₂ = a₁ (λ c. search needs) (λ c. search needs) (λ c κs. search needs) (λ c. search needs) (λ c. search needs) loop-again in
+    let a₃ = a₂ (λ c. c .before .loop .inv .0 .sized) (λ c. c .before .loop .inv .1 .sized) in
+    tie.close (a₃ (λ c. words-end _ _ _ _ _ _ (c .before .loop .inv) (c .loop-test .left)))

@@ -1,7 +1,7 @@
 -- `keystream::xor_words` meets its contract. The loop's invariant: the area has taken k steps, and k words are done. Assumes nothing.
 use Prim.Native.Nat.{_-_}
 use borrow.Author.Needs.{needs}
-use Rattle.keystream.proofs.Runs.{Words, words-start, words-turn-by, words-end}
+use Rattle.keystream.proofs.Words.{Words, words-start, words-turn-by, words-end}
 use Rattle.keystream.proofs.xor_words.Statement.{statement}
 use Rattle.keystream.proofs.xor_words.Tie as tie
 
@@ -15,7 +15,7 @@ loop-again : tie.Need-loop-again Inv-loop μ-loop
 loop-again c =
     let done = c .before .before .before .before .xor-some in
     let loop = c .before .before .before .before .before .before .before .before .loop in
-    words-turn-by _ _ _ _ _ _ _ (loop .inv) (done .ensures .1) (done .ensures .2) (done .kept .1 .0) (done .ensures .3) (done .kept .1 .1 .1 .0)
+    words-turn-by _ _ _ _ _ _ _ (loop .inv) (done .ensures .1) (done .ensures .2 .0) (done .kept .1 .0) (done .ensures .2 .1) (done .kept .1 .1 .1 .0)
 
 pub xor-words-spec : {M : Type 1} → statement M
 xor-words-spec =

@@ -4,7 +4,7 @@ use borrow.Author.Needs.{needs}
 use denote.Ref.{now}
 use Rattle.schedule.specs.Origin.{origin, isFilled}
 use Rattle.last_pass.specs.LastPass.{undoLastPass}
-use Rattle.keystream.specs.Steps.{stepsBack}
+use Rattle.steps.specs.Steps.{stepsBack}
 use Rattle.recovery.proofs.undo_at.Statement.{statement}
 use Rattle.recovery.proofs.undo_at.Tie as tie
 
@@ -15,7 +15,7 @@ returns c =
     let counted = back .before .before in
     let a = counted .before .before .args in
     let e = ap (undoLastPass (a .cipher)) (back .retreat .ensures ∙ ap (stepsBack (a .cipher) (now (a .area)) 0) (counted .steps-at .ensures)) in
-    record { words-are = found .1 ∙ ap (origin (a .cipher)) e; filled-is = found .2 ∙ ap (isFilled (a .cipher)) e }
+    record { words-are = found .words-are ∙ ap (origin (a .cipher)) e; filled-is = found .filled-is ∙ ap (isFilled (a .cipher)) e }
 
 pub undo-at-spec : {M : Type 1} → statement M
 undo-at-spec =

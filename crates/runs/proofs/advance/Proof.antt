@@ -1,33 +1,45 @@
--- `runs::advance` meets its contract: each arm starts at the place of its first A[j]. Assumes nothing.
+-- `runs::advance` meets its contract. The loop's invariant: the area has taken m steps. Assumes nothing.
+use mathlib.Core.Path.{refl, _∙_}
+use Prim.Native.Nat.{_-_}
+use native.Mathlib.Omega.{arith}
 use borrow.Author.Needs.{needs}
-use Rattle.cipher.specs.declared.Cipher.the-variants.{Hc128, Hc256}
-use Rattle.runs.proofs.Places.{run-given, steps-given}
+use Rattle.laws.proofs.Loops.{Forward, forward-starts, forward-turns, forward-ends}
+use Rattle.tables.specs.Step.{step}
+use Rattle.runs.proofs.At.{at-step, end-inside, step-at-place}
 use Rattle.runs.proofs.advance.Statement.{statement}
 use Rattle.runs.proofs.advance.Tie as tie
 
-advance-128-requires : tie.Need-advance-128-requires
-advance-128-requires c κs =
-    let k = c .before .before .before in
-    let start = k .before .before .before in
-    run-given Hc128 _ (c .before .enum-told .given .1) (k .place .ensures .0) (start .pre .0) (start .pre .1) (k .place .ensures .1) (k .before .start-b .ensures)
+abbrev Inv-loop : tie.InvT-loop
+Inv-loop cipher area₀ i n p k m₀ area m = Forward (step cipher) area₀ area i m n
 
-advance-256-requires : tie.Need-advance-256-requires
-advance-256-requires c κs =
-    let k = c .before .before .before in
-    let start = k .before .before .before in
-    run-given Hc256 _ (c .before .enum-told2 .given .1) (k .place .ensures .0) (start .pre .0) (start .pre .1) (k .place .ensures .1) (k .before .start-b .ensures)
+abbrev μ-loop : tie.MeasureT-loop
+μ-loop cipher area₀ i n p k m₀ area m = n - m
 
-returns : tie.Need-returns
-returns c =
-    let ran = c .before .before in
-    steps-given Hc128 _ (ran .before .before .enum-told .given .1) (ran .before .before .before .before .place .ensures .0) _ _ (ran .advance-128 .ensures)
+add-step : tie.Need-add-step Inv-loop μ-loop
+add-step c =
+    let place = c .before .before .before in
+    let start = place .before .before .before in
+    omega (arith, end-inside (start .args .cipher) (start .pre .1) (place .place .ensures .0) .1, c .before .loop-test .taken)
 
-returns-2 : tie.Need-returns-2
-returns-2 c =
-    let ran = c .before .before in
-    steps-given Hc256 _ (ran .before .before .enum-told2 .given .1) (ran .before .before .before .before .place .ensures .0) _ _ (ran .advance-256 .ensures)
+step-requires : tie.Need-step-requires Inv-loop μ-loop
+step-requires c κs =
+    let turn = c .before in
+    let place = turn .before .before in
+    let start = place .before .before .before in
+    at-step (start .args .cipher) (start .pre .1) (place .place .ensures .0) _ (turn .loop-test .taken)
+    (turn .before .loop .inv .sized ∙ start .pre .0) (place .before .changes-p .ensures)
+
+loop-again : tie.Need-loop-again Inv-loop μ-loop
+loop-again c =
+    let taken = c .before .before .step in
+    let turn = c .before .before .before .before in
+    let place = turn .before .before in
+    let start = place .before .before .before in
+    forward-turns _ _ _ _ _ (turn .before .loop .inv) (turn .loop-test .taken) refl
+    (step-at-place (start .args .cipher) _ (place .place .ensures .0) _ _ (taken .ensures)) (taken .kept .1 .0)
 
 pub advance-spec : {M : Type 1} → statement M
 advance-spec =
-    let a₁ = tie.spec (λ c κs. search needs) (λ c κs. search needs) (λ c. search needs) advance-128-requires (λ c. search needs) in
-    tie.close (a₁ advance-256-requires (λ c. search needs) returns (λ c. search needs) returns-2)
+    let a₁ = tie.spec Inv-loop μ-loop (λ c κs. search needs) (λ c κs. search needs) (λ c. forward-starts _ _ _ _) add-step step-requires in
+    let a₂ = a₁ (λ c. search needs) (λ c. search needs) loop-again (λ c. c .before .loop .inv .sized) in
+    tie.close (a₂ (λ c. forward-ends _ _ _ _ (c .before .loop .inv) (c .loop-test .left)))

@@ -9,7 +9,7 @@ returns : tie.Need-returns
 returns c = rw (← c .before .index .ensures .0, lt-ltb _ _ (c .if1 .taken)) refl
 
 returns-2 : tie.Need-returns-2
-returns-2 c = rw (← c .before .before .index .ensures .0, le-ltb _ _ (c .before .if1 .left), c .table-words .ensures) refl
+returns-2 c = rw (← c .before .before .index .ensures .0, le-ltb _ _ (c .before .if1 .left), c .table-words .ensures .0) refl
 
 pub run-from-spec : {M : Type 1} → statement M
 run-from-spec =

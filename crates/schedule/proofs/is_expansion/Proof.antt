@@ -25,7 +25,7 @@ loop-holds c = (search needs, search needs, λ i l b. omega arith)
 
 returns : tie.Need-returns Inv-loop μ-loop
 returns c =
-    let b = c .before .before .before .before .before .before .before .before in
+    let b = c .before .before .before .before .before in
     let s = b .before .before .before in
     let e = b .before .half-table .ensures .0 in
     let a = now (s .args .area) in
@@ -35,14 +35,14 @@ returns c =
     c .if1 .taken
     (filled-follows (s .args .cipher) a (s .pre) (λ i. b .before .before .shared-slice-known .given i .fits) (same-equal a _ t) k (omega arith) (omega arith)
     ∙ next-from a _ k (omega arith)
-    ∙ sym (rw e at (c .before .before .next-word .ensures)))))
+    ∙ sym (rw e at (c .before .before .next-at .ensures)))))
 
 loop-again : tie.Need-loop-again Inv-loop μ-loop
 loop-again c =
-    let b = c .before .before .before .before .before .before .before .before in (
+    let b = c .before .before .before .before .before in (
       search needs,
       search needs,
-      below-more _ (b .loop .k) (b .loop .inv .2) (λ l. c .if1 .left ∙ c .before .before .next-word .ensures ∙ sym (next-from _ _ (b .loop .k) l)),
+      below-more _ (b .loop .k) (b .loop .inv .2) (λ l. c .if1 .left ∙ c .before .before .next-at .ensures ∙ sym (next-from _ _ (b .loop .k) l)),
     )
 
 returns-2 : tie.Need-returns-2 Inv-loop μ-loop
@@ -55,9 +55,20 @@ returns-2 c =
 
 pub is-expansion-spec : {M : Type 1} → statement M
 is-expansion-spec =
-    let a₁ = tie.spec Inv-loop μ-loop (λ c κs. search needs) loop-holds (λ c. search needs) (λ c. search needs) in
-    let a₂ = a₁ (λ c. search needs) (λ c. search needs) (λ c. search needs) (λ c. search needs) in
-    let a₃ = a₂ (λ c. search needs) (λ c. search needs) (λ c. search needs) (λ c. search needs) in
-    let a₄ = a₃ (λ c. search needs) (λ c. search needs) (λ c. search needs) (λ c. search needs) in
-    let a₅ = a₄ (λ c κs. search needs) (λ c. search needs) (λ c. search needs) returns (λ c. search needs) in
-    tie.close (a₅ (λ c. search needs) loop-again returns-2)
+    tie.close
+    (tie.spec
+    Inv-loop
+    μ-loop
+    (λ c κs. search needs)
+    loop-holds
+    (λ c. search needs)
+    (λ c. search needs)
+    (λ c. search needs)
+    (λ c κs. search needs)
+    (λ c. search needs)
+    (λ c. search needs)
+    returns
+    (λ c. search needs)
+    (λ c. search needs)
+    loop-again
+    returns-2)

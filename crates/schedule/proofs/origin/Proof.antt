@@ -13,7 +13,7 @@ returns c =
     let b = c .before .before in
     let s = b .before .before .before .before in
     let w : b .unexpand .result ≡ origin (s .args .cipher) (now (s .args .area)) =
-    origin-window (s .args .cipher) (now (s .args .area)) _ _ _ (s .pre) (b .before .before .half-table .ensures .0) (b .before .first-window .ensures) (b .unexpand .ensures) in
+    origin-window (s .args .cipher) (now (s .args .area)) _ _ _ (s .pre) (b .before .before .half-table .ensures .0) (b .before .sixteen-from .ensures) (b .unexpand .ensures) in
     (w, rw (c .doubled .ensures, c .before .is-expansion .ensures, w))
 
 pub origin-spec : {M : Type 1} → statement M

@@ -9,8 +9,11 @@ returns : tie.Need-returns
 returns c =
     let undone = c .before .before .before .before in
     let cipher = undone .before .before .before .args .cipher in
-    let e = undone .undo-last-pass .ensures in
-    (e, c .origin .ensures .0 ∙ ap (origin cipher) e, c .origin .ensures .1 ∙ ap (isFilled cipher) e)
+    let e = undone .undo-last-pass .ensures in record {
+      area-is = e;
+      words-are = c .origin .ensures .0 ∙ ap (origin cipher) e;
+      filled-is = c .origin .ensures .1 ∙ ap (isFilled cipher) e;
+    }
 
 pub undo-set-up-spec : {M : Type 1} → statement M
 undo-set-up-spec =

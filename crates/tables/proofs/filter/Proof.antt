@@ -1,30 +1,24 @@
--- `tables::filter` meets its contract: each arm is that cipher's filter. Assumes nothing.
-use mathlib.Core.Path.{ap}
-use native.Mathlib.Omega.{arith}
+-- `tables::filter` meets its contract: h is given A[j-12]. Assumes nothing.
+use mathlib.Core.Path.{_∙_}
 use borrow.Author.Needs.{needs}
-use Rattle.cipher.specs.Numbers.{areaLength}
+use denote.Ref.{now}
+use Rattle.tables.proofs.Places.{table-size}
+use Rattle.tables.proofs.Words.{filter-read}
 use Rattle.tables.proofs.filter.Statement.{statement}
 use Rattle.tables.proofs.filter.Tie as tie
 
-filter-128-at-requires : tie.Need-filter-128-at-requires
-filter-128-at-requires c κs = omega (arith, ap areaLength (c .enum-told .given .1))
-
-filter-256-at-requires : tie.Need-filter-256-at-requires
-filter-256-at-requires c κs = omega (arith, ap areaLength (c .enum-told2 .given .1))
+indices-at-requires : tie.Need-indices-at-requires
+indices-at-requires c κs = rw (c .before .before .table-words .ensures .0) (table-size (c .before .before .before .before .args .cipher))
 
 returns : tie.Need-returns
-returns c = cc (c .before .enum-told .given .1)
-
-returns-2 : tie.Need-returns-2
-returns-2 c = cc (c .before .enum-told2 .given .1)
+returns c =
+    let read = c .before .before .before in
+    let half = read .before .before in
+    let a = half .before .before .before .args in
+    c .filter .ensures
+    ∙ filter-read (a .cipher) (now (a .area)) (a .i) (half .before .table-words .ensures .0) (half .changes-p .ensures) (read .before .start-a .ensures .0) (read .indices-at .ensures .0)
 
 pub filter-spec : {M : Type 1} → statement M
 filter-spec =
-    tie.close
-    (tie.spec
-    (λ c. search needs)
-    filter-128-at-requires
-    (λ c. search needs)
-    filter-256-at-requires
-    returns
-    returns-2)
+    let a₁ = tie.spec (λ c κs. search needs) (λ c κs. search needs) (λ c κs. search needs) indices-at-requires in
+    tie.close (a₁ (λ c. search needs) (λ c. search needs) (λ c. search needs) (λ c κs. search needs) returns)

@@ -1,0 +1,23 @@
+-- The feedback and h by cipher and by whether P changes, as the code has them. Only contracts below the engine cite it.
+use mathlib.Core.Bool.{Bool, true, false}
+use mathlib.Core.List.{List}
+use Prim.Native.Nat.{ℕ}
+use Rattle.word.specs.Word.{_⊞_, _⊟_}
+use Rattle.cipher.specs.declared.Cipher.{Cipher}
+use Rattle.cipher.specs.declared.Cipher.the-variants.{Hc128, Hc256}
+use Rattle.functions.specs.Functions.{table, startB, rotation, g128, g256, h128, h256}
+
+-- the feedback, where x, y and z are A[j-3], A[j-10] and A[j+1]
+unfoldable pub feedbackOf : Cipher → Bool → List ℕ → ℕ → ℕ → ℕ → ℕ
+feedbackOf Hc128 p s x y z = g128 (rotation p) x y z
+feedbackOf Hc256 p s x y z = y ⊞ g256 (table s (startB 1024 p)) x z
+
+-- h(x)
+unfoldable pub filterOf : Cipher → Bool → List ℕ → ℕ → ℕ
+filterOf Hc128 p s x = h128 (table s (startB 512 p)) x
+filterOf Hc256 p s x = h256 (table s (startB 1024 p)) x
+
+-- the word w with d put on it, or taken off where `back` holds
+abbrev pub put : Bool → ℕ → ℕ → ℕ
+put false w d = w ⊞ d
+put true w d = w ⊟ d
