@@ -1,24 +1,16 @@
 -- Whole set-up, from key and IV to the area, and its undoing, from an area to key and IV or none.
-use mathlib.Core.Path.{_≡_}
 use mathlib.Core.Bool.{cond}
 use mathlib.Core.List.{List}
 use Prim.Native.Nat.{ℕ}
 use Rattle.cipher.specs.declared.Cipher.{Cipher}
 use Rattle.schedule.specs.Expansion.{filled}
 use Rattle.keys.specs.Key.{sixteen, keyOf, ivOf}
-use Rattle.schedule.specs.declared.Found.{Found}
 use Rattle.schedule.specs.Origin.{origin, isFilled}
 use Rattle.last_pass.specs.LastPass.{lastPass, undoLastPass}
 
 -- the area of a key and an IV: the expansion fills it, and the last pass ends set-up
 unfoldable pub setUp : Cipher → List ℕ → List ℕ → List ℕ
 setUp c key iv = lastPass c (filled c (sixteen c key iv))
-
--- an area s led back: the last pass undone leaves t, whose sixteen words and whether they fill all of it are in r
-pub record LedBack (c : Cipher) (s t : List ℕ) (r : Found) : Type 0 where
-  pub area-is : t ≡ undoLastPass c s
-  pub words-are : r .words ≡ origin c (undoLastPass c s)
-  pub filled-is : r .filled ≡ isFilled c (undoLastPass c s)
 
 -- what undoing set-up finds
 pub data Undone : Type 0 where

@@ -3,6 +3,7 @@ ghost use mathlib.Core.Path.{_≡_};
 ghost use lib.ListN.{length};
 ghost use Rattle.cipher.specs.Numbers.{areaLength, keyLength, ivLength};
 ghost use Rattle.setup.specs.SetUp as SetUp;
+ghost use Rattle.setup.specs.LedBack.{LedBack};
 use cipher::Cipher;
 use schedule::Found;
 
@@ -19,7 +20,7 @@ pub fn set_up(cipher: Cipher, key: &[u8], iv: &[u8], area: &mut [u32])
 // The last pass undone in the area, and the sixteen words that the filled area leads back to.
 pub fn undo_set_up(cipher: Cipher, area: &mut [u32]) -> Found
     requires { ⌜ length (now area) ≡ areaLength cipher ⌝ }
-    ensures { λ r. ⌜ SetUp.LedBack cipher (now (area .entry)) (now (area .exit)) r ⌝ }
+    ensures { λ r. ⌜ LedBack cipher (now (area .entry)) (now (area .exit)) r ⌝ }
 {
     last_pass::undo_last_pass(cipher, area);
     schedule::origin(cipher, area)
