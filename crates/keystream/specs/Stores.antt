@@ -26,7 +26,8 @@ xorWord c s i start bs k = xorPart (start + 4 * k) 4 (output c (steps c s i (k +
 abbrev pub inWord : ℕ → ℕ → ℕ
 inWord p n = min ((4 - p % 4) % 4) n
 
--- what the parts of a cipher call leave of the area s and the bytes bs
+-- ---- what the parts of a cipher call leave of the area s and the bytes bs
+
 -- the r bytes that end the word that position p is inside
 abbrev pub Finished : Cipher → List ℕ → List ℕ → ℕ → ℕ → List ℕ → Type 0
 Finished c s bs p r done = (r ≡ inWord p (length bs)) × (done ≡ xorPart 0 (inWord p (length bs)) (output c s (p / 4)) (p % 4) bs)

@@ -1,4 +1,4 @@
--- A change of a run: where no index wraps, change k of HC-128 stores at place k what is read at places around k. Assumes nothing.
+-- What the code stores is the change, or the change undone, of HC-128; and the changes of a run are such that no index wraps. Assumes nothing.
 use mathlib.Core.Path.{_≡_, refl, sym, _∙_}
 use mathlib.Core.Logic.{_≢_}
 use mathlib.Core.Bool.{Bool, true, false}
@@ -13,17 +13,18 @@ use Rattle.tables.specs.Area.{changesP}
 use Rattle.tables.specs.Step.{feedback, filter, place}
 use Rattle.tables.proofs.Places.{place-is}
 use Rattle.runs.specs.Run.{Run, At, runBefore}
-use Rattle.runs.proofs.At.{place-at, at-step}
+use Rattle.runs.proofs.At.{at-step}
 use Rattle.last_pass.specs.LastPass.{change, changeBack}
 
-module _ {s : List ℕ} {p : Bool} {k h v : ℕ} (a : At Hc128 s p k) (e : h ≡ filter Hc128 s k) where
-  pub changed : v ≡ put false (getD s k 0) (feedback Hc128 s k) → set s k (v ⊕ h) ≡ change Hc128 s k
+-- k is the place of A[j]
+module _ (s : List ℕ) (i : ℕ) {k h v : ℕ} (p : k ≡ place Hc128 i) (e : h ≡ filter Hc128 s i) where
+  pub changed : v ≡ put false (getD s k 0) (feedback Hc128 s i) → set s k (v ⊕ h) ≡ change Hc128 s i
   unfolding change
-  changed f = rw (f, e, place-at Hc128 k a) refl
+  changed f = rw (f, e, p) refl
 
-  pub changed-back : v ≡ put true (getD s k 0 ⊕ h) (feedback Hc128 s k) → set s k v ≡ changeBack Hc128 s k
+  pub changed-back : v ≡ put true (getD s k 0 ⊕ h) (feedback Hc128 s i) → set s k v ≡ changeBack Hc128 s i
   unfolding changeBack
-  changed-back f = rw (f, e, place-at Hc128 k a) refl
+  changed-back f = rw (f, e, p) refl
 
 -- in the pass a change's number is its place
 pub change-at : {s : List ℕ} {p : Bool} {i n : ℕ} (m : ℕ) → i < 1024 → Run 512 i n → m < n → length s ≡ 1024 → p ≡ changesP 512 i → At Hc128 s p (i + m)

@@ -6,9 +6,9 @@ use mathlib.Core.List.{List}
 use Prim.Native.Nat.{ℕ, _+_, _-_, _%_, _≤_, _<_}
 use native.Mathlib.Omega.{arith}
 use borrow.Author.Tests.{lt-ltb, le-ltb}
-use lib.ListN.{length, getD, set}
+use lib.ListN.{length, getD}
 use Rattle.laws.proofs.Lists.{below-or-not}
-use Rattle.word.specs.Word.{_⊞_, _⊟_, _⊕_}
+use Rattle.word.specs.Word.{_⊕_}
 use Rattle.cipher.specs.declared.Cipher.{Cipher}
 use Rattle.cipher.specs.declared.Cipher.the-variants.{Hc128, Hc256}
 use Rattle.cipher.specs.Numbers.{tableLength, areaLength}
@@ -46,16 +46,6 @@ pub filter-at : (c : Cipher) {s : List ℕ} {p : Bool} (k : ℕ) → At c s p k 
 unfolding filterOf filter
 filter-at Hc128 k a = rw (before Hc128 k 12 a (omega arith) (omega arith), a .half) refl
 filter-at Hc256 k a = rw (before Hc256 k 12 a (omega arith) (omega arith), a .half) refl
-
--- A[j] changed, and the output
-module _ (c : Cipher) {s : List ℕ} {p : Bool} {k : ℕ} (a : At c s p k) where
-  pub stepped : {v : ℕ} → v ≡ getD s k 0 ⊞ feedback c s k → set s k v ≡ step c s k
-  unfolding step
-  stepped e = rw (e, place-at c k a) refl
-
-  pub stepped-back : {v : ℕ} → v ≡ getD s k 0 ⊟ feedback c s k → set s k v ≡ stepBack c s k
-  unfolding stepBack
-  stepped-back e = rw (e, place-at c k a) refl
 
 -- the output is worked out on the area t that the step leaves
 pub put-out : (c : Cipher) {s : List ℕ} {p : Bool} {k : ℕ} → At c s p k → (t : List ℕ) {h : ℕ} → h ≡ filter c t k → h ⊕ getD t k 0 ≡ output c t k

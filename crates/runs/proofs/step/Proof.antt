@@ -1,11 +1,17 @@
 -- `runs::step` meets its contract: A[j] grows by the feedback. Assumes nothing.
+use mathlib.Core.Path.{sym}
 use borrow.Author.Needs.{needs}
-use Rattle.runs.proofs.At.{stepped}
+use denote.Ref.{now}
+use Rattle.tables.proofs.Words.{stepped}
+use Rattle.runs.proofs.At.{place-at}
 use Rattle.runs.proofs.step.Statement.{statement}
 use Rattle.runs.proofs.step.Tie as tie
 
 returns : tie.Need-returns
-returns c = let start = c .before .before .before .before in stepped (start .args .cipher) (start .pre) (c .with-feedback .ensures)
+returns c =
+    let start = c .before .before .before .before in
+    let a = start .args in
+    stepped (a .cipher) (now (a .area)) (a .k) (sym (place-at (a .cipher) (a .k) (start .pre))) (c .with-feedback .ensures)
 
 pub step-spec : {M : Type 1} → statement M
 step-spec =
