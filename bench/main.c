@@ -113,6 +113,10 @@ static void print_goals(void)
         print_bulk_goal(BULK_64_KIB, cipher, "64 KiB");
         print_bulk_goal(BULK_16_MIB, cipher, "16 MiB");
         print_goal("set-up: time / faster plain C, at most 2", cipher, set_up, set_up <= 2);
+        if (columns[CRYPTOPP]) {
+            double against = against_fastest(SET_UP, cipher, CRYPTOPP, CRYPTOPP);
+            print_goal("set-up: time / Crypto++, at most 1", cipher, against, against < 1.005);
+        }
         print_goal("call of 3 bytes: time / set-up, below 0.05", cipher, call, call < 0.05);
     }
 }
