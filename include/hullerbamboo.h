@@ -92,34 +92,34 @@ struct hc_count {
 };
 
 /* Set up: fills the area from a key and an IV, and the head becomes the given code at position 0, whatever it was.
- * Refusals: 1, 2, 3, 4. Stack: 184 bytes. */
+ * Refusals: 1, 2, 3, 4. Stack: 352 bytes. */
 uint8_t hc_set_up(struct hc_head *head, uint8_t code, const uint8_t *key, size_t key_bytes, const uint8_t *iv, size_t iv_bytes, uint32_t *area,
                   size_t area_words);
 
 /* Cipher: replaces each lent byte by its exclusive or with the keystream byte, and advances by byte_count. The same call enciphers and deciphers.
  * Any number of bytes may be given at a time, also 0, which changes nothing.
- * Refusals: 1, 4, 5, 6. Stack: 216 bytes. */
+ * Refusals: 1, 4, 5, 6. Stack: 176 bytes. */
 uint8_t hc_cipher(struct hc_head *head, uint32_t *area, size_t area_words, uint8_t *bytes, size_t byte_count);
 
 /* Move: takes tables and position forward, or back where distance is negative, by a number of bytes. The time grows with the distance.
- * Refusals: 1, 4, 5, 7, 6. Stack: 232 bytes. */
+ * Refusals: 1, 4, 5, 7, 6. Stack: 112 bytes. */
 uint8_t hc_move(struct hc_head *head, uint32_t *area, size_t area_words, int64_t distance);
 
 /* Write: puts the checkpoint of head and area at the start of the lent bytes and returns its length; later bytes, area and head stay.
- * Refusals: 1, 4, 5, 8. Stack: 192 bytes. */
+ * Refusals: 1, 4, 5, 8. Stack: 160 bytes. */
 struct hc_length hc_write(struct hc_head *head, const uint32_t *area, size_t area_words, uint8_t *lent, size_t lent_bytes);
 
 /* Recover: fills the buffers with the key and the IV from which the tables came. Area and head stay. It takes every step back to set up.
- * Refusals: 1, 4, 5, 2, 3, 12. Stack: 8,744 bytes. */
+ * Refusals: 1, 4, 5, 2, 3, 12. Stack: 8,688 bytes. */
 uint8_t hc_recover(struct hc_head *head, const uint32_t *area, size_t area_words, uint8_t *key, size_t key_bytes, uint8_t *iv, size_t iv_bytes);
 
 /* Load: fills area and head from a checkpoint and returns its key and IV. The area must already have the size for the checkpoint's cipher. string is
  * the checkpoint and no byte more. Before it accepts, it takes every step back to set up and checks the key and IV that it finds there.
- * Refusals: 9, 1, 4, then for the position 10 or 9, then 5, 11, 12. Stack: 8,880 bytes. */
+ * Refusals: 9, 1, 4, then for the position 10 or 9, then 5, 11, 12. Stack: 8,784 bytes. */
 struct hc_words hc_load(struct hc_head *head, uint32_t *area, size_t area_words, const uint8_t *string, size_t string_bytes);
 
 /* Spent: how many keystream bytes have been used, which is the position. The head stays.
- * Refusals: 1, 5. Stack: 0 bytes. */
+ * Refusals: 1, 5. Stack: 8 bytes. */
 struct hc_count hc_spent(struct hc_head *head);
 
 #ifdef __cplusplus

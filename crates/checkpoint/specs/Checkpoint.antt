@@ -14,7 +14,7 @@ layout c position s = codeOf c ∷ (number position ++ bytes s)
 abbrev pub putFirst : (string lent : List ℕ) → List ℕ
 putFirst string lent = string ++ drop (length string) lent
 
--- 'a number has at most four groups'
+-- 'at most four groups'
 abbrev pub mostGroups : ℕ
 mostGroups = 4
 

@@ -45,6 +45,7 @@ module _ (string : List ℕ) (size : ℕ) (r : Beginning) where
       record {
         refused-is = λ _. x ∙ rw e;
         passed-is = λ z. absurd (never z);
+        beside = λ _. rw e;
         area-is = λ z. absurd (never z);
         within = λ z. absurd (never z);
         string-is = λ z. absurd (never z);
@@ -103,6 +104,7 @@ module _ (string : List ℕ) (size : ℕ) (r : Beginning) where
                 rw e
                 (record {
                   refused-is = λ h. absurd (h refl);
+                  beside = λ h. absurd (h refl);
                   passed-is = λ z. rw (
                     first-byte string some-bytes,
                     k,

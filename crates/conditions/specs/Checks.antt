@@ -7,6 +7,7 @@ use lib.Dec.{eqb}
 use lib.IntN.{ℤ, pos, negsuc}
 use lib.ListN.{length, drop}
 use Rattle.cipher.specs.declared.Cipher.{Cipher}
+use Rattle.cipher.specs.declared.Cipher.the-variants.{Hc128}
 use Rattle.cipher.specs.Numbers.{areaLength, keyLength, ivLength}
 use Rattle.conditions.specs.declared.Checked.{Checked}
 use Rattle.conditions.specs.declared.Beginning.{Beginning}
@@ -15,7 +16,7 @@ use Rattle.conditions.specs.declared.Distance.{Distance}
 use Rattle.conditions.specs.declared.Distance.the-variants.{Forward, Back}
 use Rattle.conditions.specs.Result.{Result, refused, accepted}
 use Rattle.conditions.specs.Limit.{limit}
-use Rattle.conditions.specs.Conditions.{loadCheck, loadFound}
+use Rattle.conditions.specs.Conditions.{endOf, loadCheck, loadFound}
 
 -- a refusal number and a value, where 0 means accepted
 abbrev pub resultOf : {A : Type 0} → ℕ → A → Result A
@@ -28,25 +29,33 @@ checkedIs r = resultOf (r .refusal) (r .cipher)
 abbrev pub endIs : End → Result ℕ
 endIs r = resultOf (r .refusal) (r .position)
 
+-- the end of a move, which is within the limit; beside a refusal the position is 0
+abbrev pub EndsAt : End → ℕ → ℤ → Type 0
+EndsAt r position distance =
+    (endIs r ≡ endOf position distance) × (r .position ≤ limit) × ((r .refusal ≡ 0 → ⊥) → r .position ≡ 0)
+
 -- a signed distance as the enum of the code
 abbrev pub distanceIs : ℤ → Distance
 distanceIs (pos n) = Forward n
 distanceIs (negsuc n) = Back n
 
--- what conditions that hold say of the cipher's lengths
+-- what conditions that hold say of the cipher's lengths; beside a refusal the cipher is HC-128, which means nothing
 pub record Sized (r : Checked) (key iv size : ℕ) : Type 0 where
+  pub beside : (r .refusal ≡ 0 → ⊥) → r .cipher ≡ Hc128
   pub key-is : r .refusal ≡ 0 → key ≡ keyLength (r .cipher)
   pub iv-is : r .refusal ≡ 0 → iv ≡ ivLength (r .cipher)
   pub area-is : r .refusal ≡ 0 → size ≡ areaLength (r .cipher)
 
 pub record Ready (r : Checked) (position size : ℕ) : Type 0 where
+  pub beside : (r .refusal ≡ 0 → ⊥) → r .cipher ≡ Hc128
   pub area-is : r .refusal ≡ 0 → size ≡ areaLength (r .cipher)
   pub within : r .refusal ≡ 0 → position ≤ limit
 
--- load's conditions up to 11
+-- load's conditions up to 11; beside a refusal the cipher is HC-128, and position and place are 0
 pub record BeginningIs (string : List ℕ) (size : ℕ) (r : Beginning) : Type 0 where
   pub refused-is : (r .refusal ≡ 0 → ⊥) → loadCheck string size ≡ refused (r .refusal)
   pub passed-is : r .refusal ≡ 0 → loadCheck string size ≡ loadFound (r .cipher) (r .position) (drop (r .next) string)
+  pub beside : (r .refusal ≡ 0 → ⊥) → r ≡ record { refusal = r .refusal; cipher = Hc128; position = 0; next = 0 }
   pub area-is : r .refusal ≡ 0 → size ≡ areaLength (r .cipher)
   pub within : r .refusal ≡ 0 → r .position ≤ limit
   pub string-is : r .refusal ≡ 0 → r .next + 4 * areaLength (r .cipher) ≡ length string

@@ -1,5 +1,6 @@
--- Document 01, 'Calls, with their refusals in order': the conditions, as functions of code, position, the area's size and the other arguments.
--- The engine reads them with the head's code and position, the account of demand 3 with its own.
+-- Document 01, 'Calls, with their refusals in order': the conditions that engine and account share, and those of recover, as functions of code,
+-- position, the area's size and the other arguments. The engine reads them with the head's code and position, the account of demand 3 with its own.
+-- Write's 8 and those of spent are in the engine's Calls.
 use mathlib.Core.List.{List, [], _∷_}
 use mathlib.Core.Option.{Option, none, some}
 use Prim.Native.Nat.{ℕ, _+_, _*_}
@@ -119,7 +120,7 @@ loadCheck string size = do
   code ← refuse 9 without firstByte string
   c ← refuse 1 without byCode code
   refuse 4 unless eqb size (areaLength c)
-  place ← positionRead (readNumber mostGroups (drop 1 string))
-  refuse 5 unless leb (place .position) limit
-  refuse 11 unless eqb (length (place .rest)) (4 * areaLength c)
-  loadFound c (place .position) (place .rest)
+  read ← positionRead (readNumber mostGroups (drop 1 string))
+  refuse 5 unless leb (read .position) limit
+  refuse 11 unless eqb (length (read .rest)) (4 * areaLength c)
+  loadFound c (read .position) (read .rest)

@@ -1,5 +1,6 @@
-// The conditions of the calls, in document 01's order: the refusal number of the first that fails, or what the call then works with. They read
-// codes, positions, sizes and strings; nothing is changed.
+// Conditions of the calls, in document 01's order: those of set up; 1, 4 and 5, which cipher, move, write and recover begin with; the end of a move, 7
+// and 6; those of load up to 11. Each gives the refusal number of the first that fails, or what the call then works with. The other conditions are
+// tested in the calls.
 ghost use mathlib.Core.Path.{_≡_};
 ghost use Prim.Native.Nat.{_≤_};
 ghost use Rattle.conditions.specs.Limit.{limit};
@@ -11,7 +12,7 @@ use cipher::Known;
 // The stream limit in bytes.
 pub const LIMIT: u64 = 67_108_864;
 
-// The outcome of a call's conditions: the refusal number, 0 where they hold, and then the cipher.
+// The result of a call's conditions: the refusal number, 0 where they hold, and then the cipher.
 pub struct Checked {
     pub refusal: u8,
     pub cipher: Cipher,
@@ -115,7 +116,7 @@ fn no_end(refusal: u8) -> End
 // Where a move by a distance ends, from a position within the limit.
 pub fn end_of(position: u64, distance: i64) -> End
     requires { ⌜ position ≤ limit ⌝ }
-    ensures { λ r. ⌜ (Checks.endIs r ≡ Conditions.endOf position distance) × (r .position ≤ limit) ⌝ }
+    ensures { λ r. ⌜ Checks.EndsAt r position distance ⌝ }
 {
     let d = split_distance(distance);
     match d {
@@ -170,16 +171,16 @@ pub fn load_check(string: &[u8], size: usize) -> Beginning
     if size != n {
         return no_beginning(4);
     }
-    let place = reader::read_position(string);
-    let refusal = place.refusal;
+    let read = reader::read_position(string);
+    let refusal = read.refusal;
     if refusal != 0 {
         return no_beginning(refusal);
     }
-    let stated = place.value;
+    let stated = read.value;
     if LIMIT < stated {
         return no_beginning(5);
     }
-    let next = place.next;
+    let next = read.next;
     if string.len() - next != 4 * n {
         return no_beginning(11);
     }

@@ -21,9 +21,9 @@ pub extern "C" fn hc_set_up(
         Answers.done r (now (head .exit)) (now (area .exit))
         ≡ Calls.setUpCall (now (head .entry)) code (now (key .entry)) (now (iv .entry)) (now (area .entry)) ⌝ }
 {
-    let ready = Head::set_up(*head, code, key, iv, area);
-    *head = ready.head;
-    ready.refusal
+    let done = Head::set_up(*head, code, key, iv, area);
+    *head = done.head;
+    done.refusal
 }
 
 // Cipher: each lent byte becomes its exclusive or with the keystream byte, and the position advances by their number.

@@ -1,4 +1,4 @@
--- What a call leaves, as the outcome that its definition speaks of: the answer, the next head, and the contents of the area and of the lent slices.
+-- How an answer, the next head and the contents of area and lent slices make the outcome that a call's definition speaks of.
 use mathlib.Core.List.{List}
 use Prim.Native.Nat.{ℕ}
 use Rattle.conditions.specs.Result.{Outcome}
@@ -17,7 +17,7 @@ abbrev pub ciphered : (refusal : ℕ) (head : Head) (area bytes : List ℕ) → 
 ciphered refusal head area bytes =
     record { refusal = refusal; value = record { engine = record { head = head; area = area }; bytes = bytes } }
 
--- write
+-- write; its area is lent as `&`, which no call can change, so that `area` is what it held at entry
 abbrev pub written : WriteAnswer → (head : Head) (area lent : List ℕ) → Outcome Written
 written answer head area lent =
     record {
@@ -25,7 +25,7 @@ written answer head area lent =
       value = record { engine = record { head = head; area = area }; length = answer .length; lent = lent };
     }
 
--- recover
+-- recover; its area too is lent as `&`
 abbrev pub recovered : (refusal : ℕ) (head : Head) (area key iv : List ℕ) → Outcome Recovered
 recovered refusal head area key iv =
     record { refusal = refusal; value = record { engine = record { head = head; area = area }; key = key; iv = iv } }

@@ -24,8 +24,8 @@ pub struct Head {
     pub position: u64,
 }
 
-// What a refused write hands back.
-fn not_written(refusal: u8, head: Head) -> WriteDone
+// What a write hands back that is refused, or not made since a call before it is refused.
+pub fn not_written(refusal: u8, head: Head) -> WriteDone
     ensures { λ r. ⌜ r ≡ record { answer = record { refusal = refusal; length = 0 }; head = head } ⌝ }
 {
     WriteDone {

@@ -10,7 +10,7 @@ use Rattle.word.specs.Bytes.{byte}
 abbrev pub table : List ℕ → ℕ → ℕ → ℕ
 table s start k = getD s (start + k) 0
 
--- where the other table B begins, by whether P changes
+-- where B begins in an area of two tables of T words, P then Q: at Q where P changes, else at P
 abbrev pub startB : ℕ → Bool → ℕ
 startB T true = T
 startB T false = 0

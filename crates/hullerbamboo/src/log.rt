@@ -20,7 +20,7 @@ fn is_readable() -> bool {
 
 // The length of what is left of standard input where it can be measured, as in a file, and 0 where it cannot, as in a pipe. Its position is put
 // back.
-fn measured() -> u64 {
+fn measure_input() -> u64 {
     let here = libc::lseek(STDIN_FILENO, 0, libc::SEEK_CUR);
     if here < 0 {
         return 0;
@@ -127,7 +127,7 @@ pub fn run(head: Head, area: &mut [u32], progress: bool) {
         return;
     }
     let position = head.position;
-    if lab::passes_limit(position, measured()) {
+    if lab::passes_limit(position, measure_input()) {
         say::refused(b"standard input", 6);
         return;
     }

@@ -34,5 +34,5 @@ ciphered c s p [] = []
 ciphered c s p (b ∷ bs) = (b ⊕ keyByte c (tablesNext c s p) p) ∷ ciphered c (tablesNext c s p) (suc p) bs
 
 -- the tables and the bytes that a cipher call at position p leaves, where s are the tables at p and bs the bytes lent
-abbrev pub Enciphered : Cipher → List ℕ → List ℕ → ℕ → List ℕ → List ℕ → Type 0
-Enciphered c s bs p stepped done = (stepped ≡ tablesAfter c s p (length bs)) × (done ≡ ciphered c s p bs)
+abbrev pub CipheredFrom : Cipher → List ℕ → ℕ → List ℕ → List ℕ → List ℕ → Type 0
+CipheredFrom c s p bs stepped done = (stepped ≡ tablesAfter c s p (length bs)) × (done ≡ ciphered c s p bs)

@@ -89,7 +89,9 @@ fn xor_some(
     n: usize,
 ) -> usize
     requires { ⌜ (length (now area) ≡ areaLength cipher) × (0 < n) × (start + 4 * n ≤ length (now bytes)) ⌝ }
-    ensures { λ r. ⌜ (0 < r) × (r ≤ n) × Worded cipher (now (area .entry)) (now (bytes .entry)) i start r (now (area .exit)) (now (bytes .exit)) ⌝ }
+    ensures { λ r. ⌜
+        (0 < r) × (r ≤ n)
+        × Worded cipher (now (area .entry)) (now (bytes .entry)) i start r (now (area .exit)) (now (bytes .exit)) ⌝ }
 {
     let m = steps::smaller(n, runs::run_from(cipher, i));
     if m == 0 {
@@ -128,7 +130,7 @@ fn begin_word(cipher: Cipher, area: &mut [u32], i: usize, bytes: &mut [u8], star
 // Each lent byte with its keystream byte, from position p on, where the area holds the tables at p.
 pub fn xor_keystream(cipher: Cipher, area: &mut [u32], p: usize, bytes: &mut [u8])
     requires { ⌜ (length (now area) ≡ areaLength cipher) × (p + length (now bytes) < 2 ^ 63) ⌝ }
-    ensures { λ _. ⌜ Keystream.Enciphered cipher (now (area .entry)) (now (bytes .entry)) p (now (area .exit)) (now (bytes .exit)) ⌝ }
+    ensures { λ _. ⌜ Keystream.CipheredFrom cipher (now (area .entry)) p (now (bytes .entry)) (now (area .exit)) (now (bytes .exit)) ⌝ }
 {
     let start = finish_word(cipher, area, p, bytes);
     let i = steps::steps_at(p);

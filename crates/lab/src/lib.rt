@@ -11,7 +11,6 @@ ghost use Rattle.lab.specs.Tasks as Tasks;
 use cipher::Cipher;
 use engine::Head;
 use engine::answers::Done;
-use engine::answers::WriteAnswer;
 use engine::answers::WriteDone;
 
 // Whether two words are the same.
@@ -226,19 +225,6 @@ pub fn set_up_at(code: u8, key: &[u8], iv: &[u8], area: &mut [u32], position: u6
     move_to(start, area, position)
 }
 
-// What a write hands back where a call before it was refused.
-fn not_written(refusal: u8, head: Head) -> WriteDone
-    ensures { λ r. ⌜ r ≡ record { answer = record { refusal = refusal; length = 0 }; head = head } ⌝ }
-{
-    WriteDone {
-        answer: WriteAnswer {
-            refusal: refusal,
-            length: 0,
-        },
-        head: head,
-    }
-}
-
 // Sets up with a key and an IV, moves to a position and puts the checkpoint at the start of the lent bytes.
 pub fn write_at(
     code: u8,
@@ -257,7 +243,7 @@ pub fn write_at(
     let refusal = done.refusal;
     let head = done.head;
     if refusal != 0 {
-        return not_written(refusal, head);
+        return engine::not_written(refusal, head);
     }
     head.write(area, lent)
 }
@@ -273,7 +259,7 @@ pub fn rewrite_at(string: &[u8], area: &mut [u32], position: u64, lent: &mut [u8
     let refusal = done.refusal;
     let head = done.head;
     if refusal != 0 {
-        return not_written(refusal, head);
+        return engine::not_written(refusal, head);
     }
     head.write(area, lent)
 }

@@ -11,7 +11,7 @@ use Rattle.tables.specs.Step.{step, stepBack}
 abbrev pub steps : Cipher → List ℕ → ℕ → ℕ → List ℕ
 steps c = forward (step c)
 
--- the same steps undone, last first
+-- the steps i to i + n - 1 undone, last first
 abbrev pub stepsBack : Cipher → List ℕ → ℕ → ℕ → List ℕ
 stepsBack c = backward (stepBack c)
 

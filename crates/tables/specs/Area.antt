@@ -24,8 +24,8 @@ abbrev pub startA : ℕ → Bool → ℕ
 startA T true = 0
 startA T false = T
 
--- 'with j = i mod T and indices modulo T': the five that a step reads; n below j modulo T is written (j + (T - n)) mod T. `Indices` in
--- theorems/specs says that they are document 01's.
+-- 'with j = i mod T and indices modulo T': the five that a step reads; n below j modulo T is written (j + (T - n)) mod T. `FiveIndices`
+-- in theorems/specs says that they are document 01's.
 abbrev pub indicesAt : ℕ → ℕ → Indices
 indicesAt T i = record {
   j = i % T;

@@ -19,7 +19,7 @@ use Rattle.conditions.specs.Result.{Result, refused, accepted, Outcome, outcome
 use Rattle.conditions.specs.Limit.{limit}
 use Rattle.conditions.specs.Conditions.{setUpCheck, ready, cipherCheck, within, endOf, moveCheck, undoAt, foundOr12, recoverCheck, positionRead, firstByte, loadFound, loadCheck}
 use Rattle.engine.specs.Calls.{setUp, setUpCall, cipher, cipherCall, move, moveCall, write, writeCall, recover, recoverCall, load, loadCall, spent, spentCall}
-use Rattle.theorems.specs.Demand1.{Answers, Demand1}
+use Rattle.theorems.specs.Demand1.{AcceptedOrRefused, Demand1}
 
 -- the refusal of a result, if it is one, is one of these numbers
 data Within {A : Type 0} (numbers : List ℕ) : Result A → Type 0 where
@@ -56,7 +56,7 @@ module _ {numbers : List ℕ} where
   line-known n (some a) q h k = k
 
   -- where a result is within the numbers, its outcome is an answer with one of them
-  answers : {A : Type 0} (old : A) (r : Result A) → Within numbers r → Answers numbers old r (outcome old r)
+  answers : {A : Type 0} (old : A) (r : Result A) → Within numbers r → AcceptedOrRefused numbers old r (outcome old r)
   answers old (refused n) (by-one h) = inr (record { number = n; one-of = h; result-is = refl; outcome-is = refl })
   answers old (accepted new) h = inl (record { new = new; result-is = refl; outcome-is = refl })
 

@@ -10,9 +10,12 @@ use lib.ListN.{length, getD}
 use Rattle.word.specs.Word.{_⊕_}
 use Rattle.word.specs.Bytes.{AllWords}
 use Rattle.cipher.specs.declared.Cipher.{Cipher}
-use Rattle.cipher.specs.Numbers.{codeOf, keyLength, ivLength}
+use Rattle.cipher.specs.Numbers.{codeOf, areaLength, keyLength, ivLength}
 use Rattle.cipher.proofs.Codes.{code-of}
+use Rattle.laws.proofs.Iterate.{forward-none}
+use Rattle.keys.specs.Key.{Pair}
 use Rattle.tables.specs.Area.{Area}
+use Rattle.tables.specs.Step.{step}
 use Rattle.steps.specs.Steps.{moved}
 use Rattle.keystream.specs.Keystream.{keystream, ciphered}
 use Rattle.keystream.proofs.Ciphered.{length-ciphered}
@@ -23,8 +26,9 @@ use Rattle.conditions.specs.Result.{accepted}
 use Rattle.conditions.specs.Limit.{limit}
 use Rattle.engine.specs.Head.{headAt}
 use Rattle.conditions.specs.Conditions.{ready, cipherCheck, endOf, moveCheck}
-use Rattle.engine.specs.Calls.{Engine, engineOf, Ciphered, cipher, move, recover}
-use Rattle.conditions.proofs.Conditions.{ready-accepted}
+use Rattle.engine.specs.Calls.{Engine, engineOf, Ciphered, setUp, cipher, move, recover, spent}
+use Rattle.conditions.proofs.Conditions.{set-up-accepted, ready-accepted}
+use Rattle.engine.proofs.Spent.{spent-accepted}
 use Rattle.theorems.specs.Account.{Four, IsFour, atPosition, holds, tablesOf, engineOfFour}
 use Rattle.theorems.specs.Demand2.{Demand2}
 use Rattle.theorems.proofs.Results.{no-refusal, accepted-one, after-line, after-unless}
@@ -60,6 +64,18 @@ four-moved-to f d e h q =
     after-line (moveCheck (codeOf (f .cipher)) (f .position) (length (tablesOf f)) d) _ q (λ _. no-refusal) λ m e₁ r₁.
     let a = move-shows (codeOf (f .cipher)) (f .position) (length (tablesOf f)) d m e₁ in
     (m .end, a .end-is, a .end-within, accepted-one q (four-movable f d (m .end) h (a .end-is) (a .end-within)))
+
+four-set-up : (c : Cipher) (key iv area : List ℕ) → Pair c key iv → length area ≡ areaLength c
+    → setUp (codeOf c) key iv area ≡ accepted (engineOfFour (record { cipher = c; key = key; iv = iv; position = 0 }))
+unfolding setUp tablesOf
+four-set-up c key iv area pair z =
+    rw (
+      set-up-accepted (codeOf c) (length key) (length iv) (length area) c (code-of c) (pair .key-long) (pair .iv-long) z,
+      forward-none (step c) (SetUp.setUp c key iv) 0,
+    )
+
+four-spent : (f : Four) → IsFour f → spent (headOf (holds f)) ≡ accepted (record { head = headOf (holds f); count = f .position })
+four-spent f h = spent-accepted (headOf (holds f)) (f .cipher) (code-of (f .cipher)) (h .within)
 
 four-enciphered : (f : Four) (area bytes : List ℕ) (r : Ciphered) → area ≡ tablesOf f
     → cipher (headOf (holds f)) area bytes ≡ accepted r → (i : ℕ) → i < length bytes
@@ -146,6 +162,10 @@ demand2 = record {
   untouched = λ calls g area e.
       let h = rw e at (agree calls g area) in
       λ i. record { head = h .head-is i; area = h .tables-are i };
+  set-up-accepted = four-set-up;
+  spent-is = λ calls g area f e.
+      let h = agree-four calls g area f e in
+      rw (h .head-is) (four-spent f (h .tables-are .0));
   cipherable = λ calls g area bytes f e l.
       let h = agree-four calls g area f e in
       rw (h .head-is) (four-cipherable f _ bytes (h .tables-are .0) (h .tables-are .1) l);

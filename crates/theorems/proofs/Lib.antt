@@ -1,4 +1,4 @@
-pub mod Indices
+pub mod FiveIndices
 pub mod Inverse
 pub mod Starred
 pub mod Demand1

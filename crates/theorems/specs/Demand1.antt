@@ -18,38 +18,39 @@ module _ {A : Type 0} where
     pub result-is : result ≡ accepted new
     pub outcome-is : o ≡ record { refusal = 0; value = new }
 
-  -- the call is refused: its refusal is one of these numbers, and what it leaves is what was there before it
+  -- the call is refused: its refusal is one of these numbers, and what it leaves is `old`: head, area and lent bytes as they were, and 0 for what the
+  -- call returns
   pub record Refused (numbers : List ℕ) (old : A) (result : Result A) (o : Outcome A) : Type 0 where
     pub number : ℕ
     pub one-of : List·Memᴰ number numbers
     pub result-is : result ≡ refused number
     pub outcome-is : o ≡ record { refusal = number; value = old }
 
-  abbrev pub Answers : (numbers : List ℕ) (old : A) (result : Result A) → Outcome A → Type 0
-  Answers numbers old result o = Accepted result o ⊎ Refused numbers old result o
+  abbrev pub AcceptedOrRefused : (numbers : List ℕ) (old : A) (result : Result A) → Outcome A → Type 0
+  AcceptedOrRefused numbers old result o = Accepted result o ⊎ Refused numbers old result o
 
--- Each call with its refusals in document 01's order. A refused write gives length 0, a refused load sixteen words 0, a refused spent count 0.
+-- Each call with its refusals in document 01's order, and with what it leaves where it is refused.
 pub record Demand1 : Type 0 where
   pub of-set-up :
       (h : Head) (code : ℕ) (key iv area : List ℕ)
-      → Answers (1 ∷ 2 ∷ 3 ∷ 4 ∷ []) (engineOf h area) (setUp code key iv area) (setUpCall h code key iv area)
+      → AcceptedOrRefused (1 ∷ 2 ∷ 3 ∷ 4 ∷ []) (engineOf h area) (setUp code key iv area) (setUpCall h code key iv area)
   pub of-cipher :
       (h : Head) (area bytes : List ℕ)
-      → Answers (1 ∷ 4 ∷ 5 ∷ 6 ∷ []) (record { engine = engineOf h area; bytes = bytes })
+      → AcceptedOrRefused (1 ∷ 4 ∷ 5 ∷ 6 ∷ []) (record { engine = engineOf h area; bytes = bytes })
       (cipher h area bytes) (cipherCall h area bytes)
   pub of-move :
       (h : Head) (area : List ℕ) (distance : ℤ)
-      → Answers (1 ∷ 4 ∷ 5 ∷ 7 ∷ 6 ∷ []) (engineOf h area) (move h area distance) (moveCall h area distance)
+      → AcceptedOrRefused (1 ∷ 4 ∷ 5 ∷ 7 ∷ 6 ∷ []) (engineOf h area) (move h area distance) (moveCall h area distance)
   pub of-write :
       (h : Head) (area lent : List ℕ)
-      → Answers (1 ∷ 4 ∷ 5 ∷ 8 ∷ []) (record { engine = engineOf h area; length = 0; lent = lent })
+      → AcceptedOrRefused (1 ∷ 4 ∷ 5 ∷ 8 ∷ []) (record { engine = engineOf h area; length = 0; lent = lent })
       (write h area lent) (writeCall h area lent)
   pub of-recover :
       (h : Head) (area key iv : List ℕ)
-      → Answers (1 ∷ 4 ∷ 5 ∷ 2 ∷ 3 ∷ 12 ∷ []) (record { engine = engineOf h area; key = key; iv = iv })
+      → AcceptedOrRefused (1 ∷ 4 ∷ 5 ∷ 2 ∷ 3 ∷ 12 ∷ []) (record { engine = engineOf h area; key = key; iv = iv })
       (recover h area key iv) (recoverCall h area key iv)
   pub of-load :
       (h : Head) (string area : List ℕ)
-      → Answers (9 ∷ 1 ∷ 4 ∷ 10 ∷ 9 ∷ 10 ∷ 5 ∷ 11 ∷ 12 ∷ [])
+      → AcceptedOrRefused (9 ∷ 1 ∷ 4 ∷ 10 ∷ 9 ∷ 10 ∷ 5 ∷ 11 ∷ 12 ∷ [])
       (record { engine = engineOf h area; key = replicate 8 0; iv = replicate 8 0 }) (load string area) (loadCall h string area)
-  pub of-spent : (h : Head) → Answers (1 ∷ 5 ∷ []) (record { head = h; count = 0 }) (spent h) (spentCall h)
+  pub of-spent : (h : Head) → AcceptedOrRefused (1 ∷ 5 ∷ []) (record { head = h; count = 0 }) (spent h) (spentCall h)

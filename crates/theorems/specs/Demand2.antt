@@ -1,5 +1,5 @@
 -- Demand 2, said of the calls: after any list of calls head and tables are those of the account's cipher, key, IV and position, ciphering is with
--- the keystream of that key and IV, recover gives them, and what goes back restores the state that held there.
+-- the keystream of that key and IV, recover gives them, and a move back restores head and tables.
 use mathlib.Core.Path.{_≡_}
 use mathlib.Core.List.{List}
 use Prim.Native.Nat.{ℕ, _+_, _≤_, _<_}
@@ -7,14 +7,16 @@ use lib.IntN.{ℤ, pos, negℤ, _+ℤ_}
 use lib.ListN.{length, getD}
 use Rattle.word.specs.Word.{_⊕_}
 use Rattle.word.specs.Bytes.{AllWords}
-use Rattle.cipher.specs.Numbers.{keyLength, ivLength}
+use Rattle.cipher.specs.declared.Cipher.{Cipher}
+use Rattle.cipher.specs.Numbers.{codeOf, areaLength, keyLength, ivLength}
+use Rattle.keys.specs.Key.{Pair}
 use Rattle.keystream.specs.Keystream.{keystream}
 use Rattle.setup.specs.SetUp as SetUp
 use Rattle.engine.specs.declared.Head.{Head}
 use Rattle.conditions.specs.Result.{accepted}
 use Rattle.conditions.specs.Limit.{limit}
 use Rattle.engine.specs.Head.{freshHead}
-use Rattle.engine.specs.Calls.{Engine, engineOf, Ciphered, cipher, move, recover}
+use Rattle.engine.specs.Calls.{Engine, engineOf, Ciphered, setUp, cipher, move, recover, spent}
 use Rattle.theorems.specs.Account.{Call, AllGiven, Four, atPosition, empty, holds, engineAfter, accountAfter, engineOfFour}
 
 pub record Demand2 : Type 0 where
@@ -26,13 +28,21 @@ pub record Demand2 : Type 0 where
   pub untouched :
       (calls : List Call) → AllGiven calls → (area : List ℕ) → accountAfter calls area ≡ empty
       → engineAfter calls area ≡ engineOf freshHead area
+  -- Set up is accepted for every key and IV of a cipher's lengths, on every area of its size, and leaves head and tables of position 0.
+  pub set-up-accepted :
+      (c : Cipher) (key iv area : List ℕ) → Pair c key iv → length area ≡ areaLength c
+      → setUp (codeOf c) key iv area ≡ accepted (engineOfFour (record { cipher = c; key = key; iv = iv; position = 0 }))
+  -- Spent gives the position whenever the account is a four.
+  pub spent-is :
+      (calls : List Call) → AllGiven calls → (area : List ℕ) (f : Four) → accountAfter calls area ≡ holds f
+      → spent (engineAfter calls area .head) ≡ accepted (record { head = engineAfter calls area .head; count = f .position })
   -- A cipher call that ends within the limit is accepted whenever the account is a four.
   pub cipherable :
       (calls : List Call) → AllGiven calls → (area bytes : List ℕ) (f : Four) → accountAfter calls area ≡ holds f
       → f .position + length bytes ≤ limit
       → (r : Ciphered) × (cipher (engineAfter calls area .head) (engineAfter calls area .area) bytes ≡ accepted r)
-  -- 'A move to an earlier byte gives the state that held there', and so does a move to a later one: every move that ends within the stream is
-  -- accepted and leaves head and tables of the four at its end, and no other move is accepted.
+  -- A move to an earlier byte gives the state that held there, and a move to a later one the state that will hold there: every move that ends within
+  -- the stream is accepted and leaves head and tables of the four at its end, and no other move is accepted.
   pub movable :
       (calls : List Call) → AllGiven calls → (area : List ℕ) (d : ℤ) (f : Four) (end : ℕ) → accountAfter calls area ≡ holds f
       → pos (f .position) +ℤ d ≡ pos end → end ≤ limit
@@ -41,7 +51,7 @@ pub record Demand2 : Type 0 where
       (calls : List Call) → AllGiven calls → (area : List ℕ) (d : ℤ) (f : Four) (e : Engine) → accountAfter calls area ≡ holds f
       → move (engineAfter calls area .head) (engineAfter calls area .area) d ≡ accepted e
       → (end : ℕ) × (pos (f .position) +ℤ d ≡ pos end) × (end ≤ limit) × (e ≡ engineOfFour (atPosition f end))
-  -- The byte enciphered at a position is the plain byte with that keystream byte of the account's cipher, key and IV.
+  -- The byte enciphered at a position is the exclusive or of the plain byte with that keystream byte of the account's cipher, key and IV.
   pub enciphered :
       (calls : List Call) → AllGiven calls → (area bytes : List ℕ) (f : Four) → accountAfter calls area ≡ holds f
       → (r : Ciphered) → cipher (engineAfter calls area .head) (engineAfter calls area .area) bytes ≡ accepted r
@@ -59,7 +69,8 @@ pub record Demand2 : Type 0 where
   pub moved-back :
       (h : Head) (area : List ℕ) (d : ℤ) (there : Engine) → AllWords area → move h area d ≡ accepted there
       → move (there .head) (there .area) (negℤ d) ≡ accepted (engineOf h area)
-  -- Where n bytes are ciphered, the move back by n is accepted and restores head and tables; there, ciphering what was given gives the bytes back.
+  -- Where n bytes are ciphered, the move back by n is accepted and restores head and tables; there, ciphering the bytes that the call left gives back
+  -- the bytes that were lent.
   pub ciphered-back :
       (h : Head) (area bytes : List ℕ) (r : Ciphered) → AllWords area → cipher h area bytes ≡ accepted r
       → (move (r .engine .head) (r .engine .area) (negℤ (pos (length bytes))) ≡ accepted (engineOf h area))

@@ -160,7 +160,7 @@ fn same_words(buffer: &[u8; 64], expected: &[u32; 16]) -> bool {
 }
 
 // A buffer of 64 zero bytes enciphered `blocks` times over, each time with the next 64 bytes of keystream.
-fn enciphered(head: Head, area: &mut [u32], blocks: usize) -> [u8; 64] {
+fn encipher_blocks(head: Head, area: &mut [u32], blocks: usize) -> [u8; 64] {
     let mut h = head;
     let mut buffer = [0u8; 64];
     let mut k = 0;
@@ -184,7 +184,7 @@ fn gives(
 ) -> bool {
     let done = Head::fresh().set_up(code, key, iv, area);
     let head = done.head;
-    let buffer = enciphered(head, area, blocks);
+    let buffer = encipher_blocks(head, area, blocks);
     same_words(&buffer, expected)
 }
 

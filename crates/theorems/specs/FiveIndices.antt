@@ -1,12 +1,12 @@
--- Document 01: 'with j = i mod T and indices modulo T'. The five indices of a step are j, j - 3, j - 10, j + 1 and j - 12 modulo T: each is an index
--- of the table, and leads back to j by the number that was taken off.
+-- Document 01: 'with j = i mod T and indices modulo T'. The five indices of a step are j, j - 3, j - 10, j + 1 and j - 12 modulo T: each is below T;
+-- j and j + 1 are given outright, and each of the others with its number added is j modulo T.
 use mathlib.Core.Path.{_≡_}
 use Prim.Native.Nat.{ℕ, _+_, _%_}
 use Rattle.cipher.specs.declared.Cipher.{Cipher}
 use Rattle.cipher.specs.Numbers.{tableLength}
 use Rattle.tables.specs.Area.{indicesAt, Within}
 
-pub record Indices : Type 0 where
+pub record FiveIndices : Type 0 where
   pub inside : (c : Cipher) (i : ℕ) → Within (tableLength c) (indicesAt (tableLength c) i)
   pub j : (c : Cipher) (i : ℕ) → indicesAt (tableLength c) i .j ≡ i % tableLength c
   pub minus3 : (c : Cipher) (i : ℕ) → (indicesAt (tableLength c) i .minus3 + 3) % tableLength c ≡ i % tableLength c

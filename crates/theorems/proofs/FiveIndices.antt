@@ -6,7 +6,7 @@ use Rattle.cipher.specs.declared.Cipher.{Cipher}
 use Rattle.cipher.specs.declared.Cipher.the-variants.{Hc128, Hc256}
 use Rattle.cipher.specs.Numbers.{tableLength}
 use Rattle.tables.specs.Area.{indicesAt, Within}
-use Rattle.theorems.specs.Indices.{Indices}
+use Rattle.theorems.specs.FiveIndices.{FiveIndices}
 
 -- n below j modulo T, and n on again
 back-on : (c : Cipher) (i n : ℕ) → n ≤ 12 → ((i % tableLength c + (tableLength c - n)) % tableLength c + n) % tableLength c ≡ i % tableLength c
@@ -21,8 +21,8 @@ inside : (c : Cipher) (i : ℕ) → Within (tableLength c) (indicesAt (tableLeng
 inside Hc128 i = record { j-in = omega arith; minus3-in = omega arith; minus10-in = omega arith; plus1-in = omega arith; minus12-in = omega arith }
 inside Hc256 i = record { j-in = omega arith; minus3-in = omega arith; minus10-in = omega arith; plus1-in = omega arith; minus12-in = omega arith }
 
-pub indices : Indices
-indices = record {
+pub five-indices : FiveIndices
+five-indices = record {
   inside = inside;
   j = λ c i. refl;
   minus3 = λ c i. back-on c i 3 (omega arith);
