@@ -111,16 +111,25 @@ module _ (h : Head) (code : ℕ) (key iv area : List ℕ) (position : ℕ) (s : 
   unfolding setUpAt
   started-made z m q = rw (← f, ← e, eq-eqb (r .refusal) 0 z) q
 
-module _ (h : Head) (string area : List ℕ) (position : ℕ) (s : List ℕ) (l : LoadDone) (f : h ≡ freshHead)
-    (e : Answers.loaded (l .answer) (l .head) s ≡ loadCall h string area) where
-  pub moved-refused : (l .answer .refusal ≡ 0 → ⊥) → Answers.done (l .answer .refusal) (l .head) s ≡ loadAndMove string area position
+module _ (string area : List ℕ) (r : Done) (s : List ℕ) (e : Answers.done (r .refusal) (r .head) s ≡ loadFresh string area) where
+  pub moved-refused : (position : ℕ) → (r .refusal ≡ 0 → ⊥) → Answers.done (r .refusal) (r .head) s ≡ loadAndMove string area position
   unfolding loadAndMove
-  moved-refused z = rw (← loaded-is h string area s l f e, ne-eqb (l .answer .refusal) 0 z)
+  moved-refused position z = rw (← e, ne-eqb (r .refusal) 0 z)
 
-  pub moved-made : l .answer .refusal ≡ 0 → (m : Outcome Engine) → m ≡ moveTo position (engineOf (l .head) s)
+  pub moved-made : (position : ℕ) → r .refusal ≡ 0 → (m : Outcome Engine) → m ≡ moveTo position (engineOf (r .head) s)
       → m ≡ loadAndMove string area position
   unfolding loadAndMove
-  moved-made z m q = rw (← loaded-is h string area s l f e, eq-eqb (l .answer .refusal) 0 z) q
+  moved-made position z m q = rw (← e, eq-eqb (r .refusal) 0 z) q
+
+  pub recovered-refused : (key iv : List ℕ) → (r .refusal ≡ 0 → ⊥)
+      → Answers.recovered (r .refusal) (r .head) s key iv ≡ recoverFrom string area key iv
+  unfolding recoverFrom
+  recovered-refused key iv z = rw (← e, ne-eqb (r .refusal) 0 z)
+
+  pub recovered-made : (key iv : List ℕ) → r .refusal ≡ 0 → (m : Outcome Calls.Recovered) → m ≡ recoverCall (r .head) s key iv
+      → m ≡ recoverFrom string area key iv
+  unfolding recoverFrom
+  recovered-made key iv z m q = rw (← e, eq-eqb (r .refusal) 0 z) q
 
 -- the lent bytes after a write are at least as many as the checkpoint's
 write-counts : (h : Head) (area lent : List ℕ) (x : Result Calls.Written) → write h area lent ≡ x
@@ -152,15 +161,3 @@ module _ (first : Outcome Engine) (lent : List ℕ) (r : Done) (s : List ℕ) (e
         (rw (ap (λ (y : Outcome Calls.Written). y .value .length) q, ap (λ (y : Outcome Calls.Written). y .value .lent) q)
         (write-counts (r .head) s lent (write (r .head) s lent) refl)),
   )
-
-module _ (h : Head) (string area key iv s : List ℕ) (l : LoadDone) (f : h ≡ freshHead)
-    (e : Answers.loaded (l .answer) (l .head) s ≡ loadCall h string area) where
-  pub recovered-refused : (l .answer .refusal ≡ 0 → ⊥)
-      → Answers.recovered (l .answer .refusal) (l .head) s key iv ≡ recoverFrom string area key iv
-  unfolding recoverFrom
-  recovered-refused z = rw (← loaded-is h string area s l f e, ne-eqb (l .answer .refusal) 0 z)
-
-  pub recovered-made : l .answer .refusal ≡ 0 → (r : Outcome Calls.Recovered) → r ≡ recoverCall (l .head) s key iv
-      → r ≡ recoverFrom string area key iv
-  unfolding recoverFrom
-  recovered-made z r q = rw (← loaded-is h string area s l f e, eq-eqb (l .answer .refusal) 0 z) q

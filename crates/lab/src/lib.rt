@@ -179,21 +179,32 @@ pub fn move_to(head: Head, area: &mut [u32], position: u64) -> Done
     head.move_by(area, position as i64 - here as i64)
 }
 
+// Loads a checkpoint, from a fresh head.
+fn load_fresh(string: &[u8], area: &mut [u32]) -> Done
+    ensures { λ r. ⌜
+        Answers.done (r .refusal) (r .head) (now (area .exit))
+        ≡ Tasks.loadFresh (now (string .entry)) (now (area .entry)) ⌝ }
+{
+    let loaded = Head::fresh().load(area, string);
+    let answer = loaded.answer;
+    let head = loaded.head;
+    Done {
+        refusal: answer.refusal,
+        head: head,
+    }
+}
+
 // Loads a checkpoint and moves to a position.
 pub fn load_and_move(string: &[u8], area: &mut [u32], position: u64) -> Done
     ensures { λ r. ⌜
         Answers.done (r .refusal) (r .head) (now (area .exit))
         ≡ Tasks.loadAndMove (now (string .entry)) (now (area .entry)) position ⌝ }
 {
-    let loaded = Head::fresh().load(area, string);
-    let answer = loaded.answer;
-    let refusal = answer.refusal;
-    let head = loaded.head;
+    let done = load_fresh(string, area);
+    let refusal = done.refusal;
+    let head = done.head;
     if refusal != 0 {
-        return Done {
-            refusal: refusal,
-            head: head,
-        };
+        return done;
     }
     move_to(head, area, position)
 }
@@ -270,15 +281,11 @@ pub fn recover_from(string: &[u8], area: &mut [u32], key: &mut [u8], iv: &mut [u
         Answers.recovered (r .refusal) (r .head) (now (area .exit)) (now (key .exit)) (now (iv .exit))
         ≡ Tasks.recoverFrom (now (string .entry)) (now (area .entry)) (now (key .entry)) (now (iv .entry)) ⌝ }
 {
-    let loaded = Head::fresh().load(area, string);
-    let answer = loaded.answer;
-    let refusal = answer.refusal;
-    let head = loaded.head;
+    let done = load_fresh(string, area);
+    let refusal = done.refusal;
+    let head = done.head;
     if refusal != 0 {
-        return Done {
-            refusal: refusal,
-            head: head,
-        };
+        return done;
     }
     head.recover(area, key, iv)
 }

@@ -5,17 +5,14 @@ use Rattle.lab.proofs.load_and_move.Statement.{statement}
 use Rattle.lab.proofs.load_and_move.Tie as tie
 
 returns : tie.Need-returns
-returns c =
-    let called = c .before .before .before .before .before in
-    moved-refused _ _ _ _ _ _ (called .before .before .fresh .ensures) (called .load .ensures) (c .if1 .taken)
+returns c = moved-refused _ _ _ _ (c .before .before .before .before .load-fresh .ensures) _ (c .if1 .taken)
 
 returns-2 : tie.Need-returns-2
 returns-2 c =
     let tested = c .before .before .before .before in
-    let called = tested .before .before .before .before .before in
-    moved-made _ _ _ _ _ _ (called .before .before .fresh .ensures) (called .load .ensures) (tested .if1 .left) _ (c .before .before .move-to .ensures)
+    moved-made _ _ _ _ (tested .before .before .before .before .load-fresh .ensures) _ (tested .if1 .left) _ (c .before .before .move-to .ensures)
 
 pub load-and-move-spec : {M : Type 1} → statement M
 load-and-move-spec =
-    let a₁ = tie.spec (λ c κs. search needs) (λ c κs. search needs) (λ c. search needs) returns (λ c κs. search needs) in
-    tie.close (a₁ (λ c. search needs) returns-2)
+    let a₁ = tie.spec (λ c κs. search needs) (λ c. search needs) returns (λ c κs. search needs) (λ c. search needs) in
+    tie.close (a₁ returns-2)
