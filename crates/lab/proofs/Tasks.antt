@@ -146,18 +146,25 @@ write-counts h area lent (accepted w) e =
 counts : (n : ℕ) (bytes : List ℕ) → n ≤ length bytes → Tasks.Counts n bytes
 counts n bytes l = (l, sym (length-take-le n bytes l))
 
-module _ (first : Outcome Engine) (lent : List ℕ) (r : Done) (s : List ℕ) (e : Answers.done (r .refusal) (r .head) s ≡ first) where
+module _ (lent : List ℕ) (r : Done) (s : List ℕ) where
   pub written-refused : (r .refusal ≡ 0 → ⊥) → (w : WriteDone) → w ≡ record { answer = record { refusal = r .refusal; length = 0 }; head = r .head }
-      → (Answers.written (w .answer) (w .head) s lent ≡ thenWrite first lent) × Tasks.Counts (w .answer .length) lent
-  written-refused h w q = rw q (rw (← e, ne-eqb (r .refusal) 0 h), counts 0 lent (omega arith))
+      → (Answers.written (w .answer) (w .head) s lent ≡ thenWrite (Answers.done (r .refusal) (r .head) s) lent)
+      × Tasks.Counts (w .answer .length) lent
+  written-refused h w q = rw q (rw (ne-eqb (r .refusal) 0 h), counts 0 lent (omega arith))
 
   pub written-made : r .refusal ≡ 0 → (w : WriteDone) (lent′ : List ℕ)
       → Answers.written (w .answer) (w .head) s lent′ ≡ writeCall (r .head) s lent
-      → (Answers.written (w .answer) (w .head) s lent′ ≡ thenWrite first lent) × Tasks.Counts (w .answer .length) lent′
+      → (Answers.written (w .answer) (w .head) s lent′ ≡ thenWrite (Answers.done (r .refusal) (r .head) s) lent)
+      × Tasks.Counts (w .answer .length) lent′
   unfolding writeCall
   written-made h w lent′ q = (
-    rw (← e, eq-eqb (r .refusal) 0 h) q,
+    rw (eq-eqb (r .refusal) 0 h) q,
     counts (w .answer .length) lent′
         (rw (ap (λ (y : Outcome Calls.Written). y .value .length) q, ap (λ (y : Outcome Calls.Written). y .value .lent) q)
         (write-counts (r .head) s lent (write (r .head) s lent) refl)),
   )
+
+-- a write after calls that leave the outcome `first`
+pub written-after : (first other : Outcome Engine) (lent : List ℕ) (w : Outcome Calls.Written) (C : Type 0) → first ≡ other
+    → (w ≡ thenWrite first lent) × C → (w ≡ thenWrite other lent) × C
+written-after first other lent w C e p = (p .0 ∙ ap (λ (f : Outcome Engine). thenWrite f lent) e, p .1)

@@ -236,6 +236,21 @@ pub fn set_up_at(code: u8, key: &[u8], iv: &[u8], area: &mut [u32], position: u6
     move_to(start, area, position)
 }
 
+// Puts the checkpoint at the start of the lent bytes, on what the calls before left, where they were accepted.
+fn write_after(done: Done, area: &[u32], lent: &mut [u8]) -> WriteDone
+    ensures { λ r. ⌜
+        (Answers.written (r .answer) (r .head) (now (area .entry)) (now (lent .exit))
+        ≡ Tasks.thenWrite (Answers.done (done .refusal) (done .head) (now (area .entry))) (now (lent .entry)))
+        × Tasks.Counts (r .answer .length) (now (lent .exit)) ⌝ }
+{
+    let refusal = done.refusal;
+    let head = done.head;
+    if refusal != 0 {
+        return engine::not_written(refusal, head);
+    }
+    head.write(area, lent)
+}
+
 // Sets up with a key and an IV, moves to a position and puts the checkpoint at the start of the lent bytes.
 pub fn write_at(
     code: u8,
@@ -251,12 +266,7 @@ pub fn write_at(
         × Tasks.Counts (r .answer .length) (now (lent .exit)) ⌝ }
 {
     let done = set_up_at(code, key, iv, area, position);
-    let refusal = done.refusal;
-    let head = done.head;
-    if refusal != 0 {
-        return engine::not_written(refusal, head);
-    }
-    head.write(area, lent)
+    write_after(done, area, lent)
 }
 
 // Loads a checkpoint, moves to a position and puts the checkpoint there at the start of the lent bytes.
@@ -267,12 +277,7 @@ pub fn rewrite_at(string: &[u8], area: &mut [u32], position: u64, lent: &mut [u8
         × Tasks.Counts (r .answer .length) (now (lent .exit)) ⌝ }
 {
     let done = load_and_move(string, area, position);
-    let refusal = done.refusal;
-    let head = done.head;
-    if refusal != 0 {
-        return engine::not_written(refusal, head);
-    }
-    head.write(area, lent)
+    write_after(done, area, lent)
 }
 
 // Loads a checkpoint and fills the two buffers with its key and its IV.
