@@ -42,7 +42,7 @@ extern "C" {
 #define HC_128_AREA_WORDS 1024
 #define HC_256_AREA_WORDS 2048
 
-/* The room that hc_write asks for; a checkpoint has this many bytes or up to three fewer. */
+/* The longest checkpoints, those from position 2,097,152 on. hc_checkpoint_length gives the length at any position. */
 #define HC_128_CHECKPOINT_BYTES 4101
 #define HC_256_CHECKPOINT_BYTES 8197
 
@@ -58,7 +58,7 @@ enum hc_refusal {
     HC_BAD_POSITION = 5,   /* the position is over HC_LIMIT */
     HC_PAST_LIMIT = 6,     /* the call would end past HC_LIMIT */
     HC_BEFORE_START = 7,   /* the move would end before position 0 */
-    HC_LITTLE_ROOM = 8,    /* fewer bytes lent than a checkpoint may need */
+    HC_LITTLE_ROOM = 8,    /* fewer bytes lent than the checkpoint has */
     HC_ENDS_EARLY = 9,     /* the checkpoint is empty or ends inside its position */
     HC_BAD_NUMBER = 10,    /* the checkpoint's position is longer than four bytes, or not in its shortest form */
     HC_STRING_LENGTH = 11, /* the bytes after the position are not as many as the tables */
@@ -71,7 +71,7 @@ struct hc_head {
     uint64_t position;
 };
 
-/* What hc_write returns. length is 0 where the call is refused. */
+/* What hc_checkpoint_length and hc_write return. length is 0 where the call is refused. */
 struct hc_length {
     uint8_t refusal;
     size_t length;
@@ -104,6 +104,12 @@ uint8_t hc_cipher(struct hc_head *head, uint32_t *area, size_t area_words, uint8
 /* Move: takes tables and position forward, or back where distance is negative, by a number of bytes. The time grows with the distance.
  * Refusals: 1, 4, 5, 7, 6. Stack: 112 bytes. */
 uint8_t hc_move(struct hc_head *head, uint32_t *area, size_t area_words, int64_t distance);
+
+/* Checkpoint length: how many bytes the checkpoint of a cipher has at a position: 1, plus the bytes of the position as a number (1 below 128, 2 below
+ * 16,384, 3 below 2,097,152, else 4), plus 4 times the words of the area. For a head's code and position it is what hc_write returns, and the fewest
+ * bytes that it takes.
+ * Refusals: 1, 5. Stack: 8 bytes. */
+struct hc_length hc_checkpoint_length(uint8_t code, uint64_t position);
 
 /* Write: puts the checkpoint of head and area at the start of the lent bytes and returns its length; later bytes, area and head stay.
  * Refusals: 1, 4, 5, 8. Stack: 160 bytes. */

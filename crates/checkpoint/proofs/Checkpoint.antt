@@ -1,4 +1,4 @@
--- The length of a checkpoint, that it fits in the lent bytes, and its parts stored one after another. Assumes nothing.
+-- The length of a checkpoint, the longest one, and its parts stored one after another. Assumes nothing.
 use mathlib.Core.Path.{_≡_, sym, _∙_}
 use mathlib.Core.List.{List, _++_}
 use Prim.Native.Nat.{ℕ, _+_, _*_, _^_, _<_, _≤_}
@@ -12,20 +12,20 @@ use Rattle.varint.specs.Number.{number}
 use Rattle.varint.proofs.Groups.{number-length}
 use Rattle.cipher.specs.declared.Cipher.{Cipher}
 use Rattle.cipher.specs.Numbers.{codeOf, areaLength}
-use Rattle.checkpoint.specs.Checkpoint.{layout, mostGroups, room}
+use Rattle.checkpoint.specs.Checkpoint.{layout, lengthOf, mostGroups, longest}
 use Rattle.checkpoint.proofs.Stores.{sets-append}
 
 -- a position is below 2 ^ 28: it has at most four groups
-pub position-length : (p : ℕ) → p < 2 ^ 28 → length (number p) ≤ mostGroups
+position-length : (p : ℕ) → p < 2 ^ 28 → length (number p) ≤ mostGroups
 position-length p l = number-length 4 p (omega arith) (omega arith) l
 
+pub length-longest : (c : Cipher) (p : ℕ) → p < 2 ^ 28 → lengthOf c p ≤ longest c
+length-longest c p l = omega (arith, position-length p l)
+
 module _ (c : Cipher) (p : ℕ) (s : List ℕ) where
-  pub layout-length : length s ≡ areaLength c → length (layout c p s) ≡ 1 + length (number p) + 4 * areaLength c
+  pub layout-length : length s ≡ areaLength c → length (layout c p s) ≡ lengthOf c p
   unfolding layout
   layout-length e = omega (arith, length-append (number p) (bytes s), length-bytes s)
-
-  pub layout-room : length s ≡ areaLength c → p < 2 ^ 28 → length (layout c p s) ≤ room c
-  layout-room e l = omega (arith, layout-length e, position-length p l)
 
   pub layout-stored : (lent : List ℕ) → length (layout c p s) ≤ length lent
       → sets (sets (set lent 0 (codeOf c)) 1 (number p)) (1 + length (number p)) (bytes s)

@@ -10,6 +10,10 @@ use Rattle.cipher.specs.Numbers.{codeOf, areaLength}
 unfoldable pub layout : Cipher → ℕ → List ℕ → List ℕ
 layout c position s = codeOf c ∷ (number position ++ bytes s)
 
+-- Document 02 (g), the length of a checkpoint: 'exactly 1, plus the groups of the position (1 to 4), plus 4 times 2T'
+abbrev pub lengthOf : Cipher → ℕ → ℕ
+lengthOf c position = 1 + length (number position) + 4 * areaLength c
+
 -- a string at the start of lent bytes; later bytes stay
 abbrev pub putFirst : (string lent : List ℕ) → List ℕ
 putFirst string lent = string ++ drop (length string) lent
@@ -18,6 +22,6 @@ putFirst string lent = string ++ drop (length string) lent
 abbrev pub mostGroups : ℕ
 mostGroups = 4
 
--- the lent bytes that write asks for: 4,101 (HC-128) or 8,197 (HC-256)
-abbrev pub room : Cipher → ℕ
-room c = 1 + mostGroups + 4 * areaLength c
+-- the longest that a checkpoint is: 4,101 (HC-128) or 8,197 (HC-256)
+abbrev pub longest : Cipher → ℕ
+longest c = 1 + mostGroups + 4 * areaLength c

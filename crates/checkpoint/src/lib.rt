@@ -9,11 +9,11 @@ ghost use Rattle.cipher.specs.Numbers.{areaLength};
 ghost use Rattle.checkpoint.specs.Checkpoint as Checkpoint;
 use cipher::Cipher;
 
-// The lent bytes that write asks for.
-pub fn room(cipher: Cipher) -> usize
-    ensures { λ r. ⌜ (r ≡ Checkpoint.room cipher) × (r ≤ 8197) ⌝ }
+// The length of a checkpoint: 1, plus the groups of the position, plus 4 times 2T.
+pub fn length_of(cipher: Cipher, position: u64) -> usize
+    ensures { λ r. ⌜ r ≡ Checkpoint.lengthOf cipher position ⌝ }
 {
-    1 + 4 + 4 * cipher::area_words(cipher)
+    1 + varint::count_groups(position) + 4 * cipher::area_words(cipher)
 }
 
 // Writes a word from place `at` on, least significant byte first.
@@ -43,18 +43,15 @@ fn put_words(out: &mut [u8], at: usize, area: &[u32])
     }
 }
 
-// Puts the checkpoint at the start of the lent bytes and returns its length; later bytes stay.
-pub fn write_checkpoint(cipher: Cipher, position: u64, area: &[u32], lent: &mut [u8]) -> usize
-    requires { ⌜ (length (now area) ≡ areaLength cipher) × (position < 2 ^ 28) × (Checkpoint.room cipher ≤ length (now lent)) ⌝ }
-    ensures { λ r. ⌜
-        (r ≡ length (Checkpoint.layout cipher position (now (area .entry))))
-        × (now (lent .exit) ≡ Checkpoint.putFirst (Checkpoint.layout cipher position (now (area .entry))) (now (lent .entry))) ⌝ }
+// Puts the checkpoint at the start of the lent bytes; later bytes stay.
+pub fn write_checkpoint(cipher: Cipher, position: u64, area: &[u32], lent: &mut [u8])
+    requires { ⌜ (length (now area) ≡ areaLength cipher) × (Checkpoint.lengthOf cipher position ≤ length (now lent)) ⌝ }
+    ensures { λ _. ⌜ now (lent .exit) ≡ Checkpoint.putFirst (Checkpoint.layout cipher position (now (area .entry))) (now (lent .entry)) ⌝ }
 {
     let row = cipher::row_of(cipher);
     lent[0] = row.code;
     let at = varint::write_number(position, lent, 1);
     put_words(lent, at, area);
-    at + 4 * area.len()
 }
 
 // Fills the area with the words of a string from place `from` on, least significant byte first.

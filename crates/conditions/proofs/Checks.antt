@@ -9,7 +9,7 @@ use Rattle.cipher.specs.Numbers.{areaLength, keyLength, ivLength}
 use Rattle.conditions.specs.declared.Checked.{Checked}
 use Rattle.conditions.specs.Result.{Result, refused, accepted}
 use Rattle.conditions.specs.Limit.{limit}
-use Rattle.conditions.specs.Checks.{resultOf, checkedIs, Sized, Ready}
+use Rattle.conditions.specs.Checks.{resultOf, checkedIs, Sized, Ready, HeadReady}
 
 -- ---- what a caller learns
 
@@ -36,6 +36,9 @@ module _ (r : Checked) (X : Result Cipher) (n : ℕ) (some : n ≡ 0 → ⊥) (e
   pub refused-ready : (position size : ℕ) → (checkedIs r ≡ X) × Ready r position size
   refused-ready position size = (refused-is, record { beside = λ _. ap (λ (q : Checked). q .cipher) e; area-is = λ z. absurd (never z); within = λ z. absurd (never z) })
 
+  pub refused-head : (position : ℕ) → (checkedIs r ≡ X) × HeadReady r position
+  refused-head position = (refused-is, record { beside = λ _. ap (λ (q : Checked). q .cipher) e; within = λ z. absurd (never z) })
+
 module _ (r : Checked) (X : Result Cipher) (c : Cipher) (e : r ≡ record { refusal = 0; cipher = c }) (x : X ≡ accepted c) where
   passed-is : checkedIs r ≡ X
   passed-is = rw (e, x)
@@ -46,3 +49,6 @@ module _ (r : Checked) (X : Result Cipher) (c : Cipher) (e : r ≡ record { refu
 
   pub passed-ready : (position size : ℕ) → size ≡ areaLength c → position ≤ limit → (checkedIs r ≡ X) × Ready r position size
   passed-ready position size s l = (passed-is, record { beside = λ h. absurd (h (ap (λ (q : Checked). q .refusal) e)); area-is = λ z. rw e s; within = λ z. l })
+
+  pub passed-head : (position : ℕ) → position ≤ limit → (checkedIs r ≡ X) × HeadReady r position
+  passed-head position l = (passed-is, record { beside = λ h. absurd (h (ap (λ (q : Checked). q .refusal) e)); within = λ z. l })

@@ -7,7 +7,7 @@ use Rattle.cipher.specs.declared.Cipher.{Cipher}
 use Rattle.cipher.specs.Numbers.{byCode, areaLength, keyLength, ivLength}
 use Rattle.conditions.specs.Result.{refused, accepted}
 use Rattle.conditions.specs.Limit.{limit}
-use Rattle.conditions.specs.Conditions.{setUpCheck, ready}
+use Rattle.conditions.specs.Conditions.{setUpCheck, ready, headCheck}
 
 -- ---- set up
 
@@ -52,3 +52,19 @@ module _ (code position size : ℕ) where
     pub ready-accepted : size ≡ areaLength c → position ≤ limit → ready code position size ≡ accepted c
     unfolding ready
     ready-accepted s l = rw (e, eq-eqb size (areaLength c) s, le-leb position limit l)
+
+-- ---- 1 and 5
+
+module _ (code position : ℕ) where
+  pub head-unknown : byCode code ≡ none → headCheck code position ≡ refused 1
+  unfolding headCheck
+  head-unknown e = rw e
+
+  module _ (c : Cipher) (e : byCode code ≡ some c) where
+    pub head-position : limit < position → headCheck code position ≡ refused 5
+    unfolding headCheck
+    head-position l = rw (e, lt-leb position limit l)
+
+    pub head-accepted : position ≤ limit → headCheck code position ≡ accepted c
+    unfolding headCheck
+    head-accepted l = rw (e, le-leb position limit l)

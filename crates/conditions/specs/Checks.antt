@@ -51,6 +51,10 @@ pub record Ready (r : Checked) (position size : ℕ) : Type 0 where
   pub area-is : r .refusal ≡ 0 → size ≡ areaLength (r .cipher)
   pub within : r .refusal ≡ 0 → position ≤ limit
 
+pub record HeadReady (r : Checked) (position : ℕ) : Type 0 where
+  pub beside : (r .refusal ≡ 0 → ⊥) → r .cipher ≡ Hc128
+  pub within : r .refusal ≡ 0 → position ≤ limit
+
 -- load's conditions up to 11; beside a refusal the cipher is HC-128, and position and place are 0
 pub record BeginningIs (string : List ℕ) (size : ℕ) (r : Beginning) : Type 0 where
   pub refused-is : (r .refusal ≡ 0 → ⊥) → loadCheck string size ≡ refused (r .refusal)

@@ -1,6 +1,6 @@
 -- Document 01, 'Calls, with their refusals in order': the conditions that engine and account share, and those of recover, as functions of code,
 -- position, the area's size and the other arguments. The engine reads them with the head's code and position, the account of demand 3 with its own.
--- Write's 8 and those of spent are in the engine's Calls.
+-- Write's 8 is in the engine's Calls.
 use mathlib.Core.List.{List, [], _∷_}
 use mathlib.Core.Option.{Option, none, some}
 use Prim.Native.Nat.{ℕ, _+_, _*_}
@@ -32,6 +32,13 @@ unfoldable pub ready : (code position size : ℕ) → Result Cipher
 ready code position size = do
   c ← refuse 1 without byCode code
   refuse 4 unless eqb size (areaLength c)
+  refuse 5 unless leb position limit
+  accepted c
+
+-- 1: head's code. 5: position over the limit.
+unfoldable pub headCheck : (code position : ℕ) → Result Cipher
+headCheck code position = do
+  c ← refuse 1 without byCode code
   refuse 5 unless leb position limit
   accepted c
 

@@ -1,5 +1,5 @@
-// Conditions of the calls, in document 01's order: those of set up; 1, 4 and 5, which cipher, move, write and recover begin with; the end of a move, 7
-// and 6; those of load up to 11. Each gives the refusal number of the first that fails, or what the call then works with. The other conditions are
+// Conditions of the calls, in document 01's order: those of set up; 1, 4 and 5, which cipher, move, write and recover begin with; 1 and 5, those of
+// a head alone; the end of a move, 7 and 6; those of load up to 11. Each gives the refusal number of the first that fails, or what the call then works with. The other conditions are
 // tested in the calls.
 ghost use mathlib.Core.Path.{_≡_};
 ghost use Prim.Native.Nat.{_≤_};
@@ -71,6 +71,20 @@ pub fn ready(code: u8, position: u64, size: usize) -> Checked
         return refused(5);
     }
     passed(c)
+}
+
+// The conditions 1 and 5, those of a head alone.
+pub fn head_check(code: u8, position: u64) -> Checked
+    ensures { λ r. ⌜ (Checks.checkedIs r ≡ Conditions.headCheck code position) × Checks.HeadReady r position ⌝ }
+{
+    let known = cipher::by_code(code);
+    let Known::Is(c) = known else {
+        return refused(1);
+    };
+    if position <= LIMIT {
+        return passed(c);
+    }
+    refused(5)
 }
 
 // A signed distance: n bytes on, or n + 1 bytes back.

@@ -1,12 +1,12 @@
-// The box's interface: the seven calls on the caller's own head, for C. Each takes the head by mutable reference, hands a copy to the engine's
-// call and stores the head that comes back. There is no state but what the caller lends.
+// The box's interface, for C: the seven calls on the caller's own head, and the length of a checkpoint. Each of the seven takes the head by mutable
+// reference, hands a copy to the engine's call and stores the head that comes back. There is no state but what the caller lends.
 ghost use mathlib.Core.Path.{_≡_};
 ghost use Rattle.engine.specs.Answers as Answers;
 ghost use Rattle.engine.specs.Calls as Calls;
 use engine::Head;
+use engine::answers::LengthAnswer;
 use engine::answers::LoadAnswer;
 use engine::answers::SpentAnswer;
-use engine::answers::WriteAnswer;
 
 // Set up: the area is filled from a key and an IV, and the position becomes 0.
 #[no_mangle]
@@ -50,9 +50,17 @@ pub extern "C" fn hc_move(head: &mut Head, area: &mut [u32], distance: i64) -> u
     moved.refusal
 }
 
+// Checkpoint length: how many bytes the checkpoint of a cipher has at a position.
+#[no_mangle]
+pub extern "C" fn hc_checkpoint_length(code: u8, position: u64) -> LengthAnswer
+    ensures { λ r. ⌜ Answers.told r ≡ Calls.checkpointLengthCall code position ⌝ }
+{
+    engine::checkpoint_length(code, position)
+}
+
 // Write: the checkpoint is put at the start of the lent bytes; later bytes stay.
 #[no_mangle]
-pub extern "C" fn hc_write(head: &mut Head, area: &[u32], lent: &mut [u8]) -> WriteAnswer
+pub extern "C" fn hc_write(head: &mut Head, area: &[u32], lent: &mut [u8]) -> LengthAnswer
     ensures { λ r. ⌜
         Answers.written r (now (head .exit)) (now (area .entry)) (now (lent .exit))
         ≡ Calls.writeCall (now (head .entry)) (now (area .entry)) (now (lent .entry)) ⌝ }

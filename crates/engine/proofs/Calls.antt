@@ -22,14 +22,14 @@ use Rattle.keystream.proofs.Positions.{moved-on}
 use Rattle.setup.specs.SetUp as SetUp
 use Rattle.setup.specs.SetUp.{none, found}
 use Rattle.setup.proofs.Inverse.{undo-not-filled, undo-filled}
-use Rattle.checkpoint.specs.Checkpoint.{layout, room}
+use Rattle.checkpoint.specs.Checkpoint.{layout, lengthOf}
 use Rattle.recovery.specs.Recovery.{filledAt}
 use Rattle.engine.specs.declared.Head.{Head}
 use Rattle.conditions.specs.Result.{refused, accepted, outcome}
 use Rattle.conditions.specs.Limit.{limit}
 use Rattle.engine.specs.Head.{headAt}
-use Rattle.conditions.specs.Conditions.{setUpCheck, ready, cipherCheck, endOf, moveCheck, undoAt, recoverCheck, loadFound, loadCheck}
-use Rattle.engine.specs.Calls.{engineOf, setUp, setUpCall, cipher, cipherCall, move, moveCall, write, writeCall, recover, recoverCall, eightWords, load, loadCall}
+use Rattle.conditions.specs.Conditions.{setUpCheck, ready, headCheck, cipherCheck, endOf, moveCheck, undoAt, recoverCheck, loadFound, loadCheck}
+use Rattle.engine.specs.Calls.{engineOf, setUp, setUpCall, cipher, cipherCall, move, moveCall, write, writeCall, checkpointLength, checkpointLengthCall, recover, recoverCall, eightWords, load, loadCall, spent, spentCall}
 
 module _ (h : Head) (code : ℕ) (key iv area : List ℕ) where
   pub set-up-refused : (n : ℕ) → setUpCheck code (length key) (length iv) (length area) ≡ refused n
@@ -86,16 +86,26 @@ module _ (h : Head) (area lent : List ℕ) where
   write-refused n e = rw e
 
   module _ (c : Cipher) (e : ready (h .code) (h .position) (length area) ≡ accepted c) where
-    pub write-small : length lent < room c
+    pub write-small : length lent < lengthOf c (h .position)
         → record { refusal = 8; value = record { engine = engineOf h area; length = 0; lent = lent } } ≡ writeCall h area lent
     unfolding writeCall write
-    write-small l = rw (e, lt-leb (room c) (length lent) l)
+    write-small l = rw (e, lt-leb (lengthOf c (h .position)) (length lent) l)
 
-    pub write-done : (n : ℕ) (lent′ : List ℕ) → room c ≤ length lent → n ≡ length (layout c (h .position) area)
+    pub write-done : (n : ℕ) (lent′ : List ℕ) → n ≡ lengthOf c (h .position) → n ≤ length lent
         → lent′ ≡ layout c (h .position) area ++ drop (length (layout c (h .position) area)) lent
         → record { refusal = 0; value = record { engine = engineOf h area; length = n; lent = lent′ } } ≡ writeCall h area lent
     unfolding writeCall write
-    write-done n lent′ l p q = rw (e, le-leb (room c) (length lent) l, p, q)
+    write-done n lent′ p l q = rw (e, p, q, le-leb (lengthOf c (h .position)) (length lent) (omega arith))
+
+module _ (code position : ℕ) where
+  pub length-refused : (n : ℕ) → headCheck code position ≡ refused n → record { refusal = n; value = 0 } ≡ checkpointLengthCall code position
+  unfolding checkpointLengthCall checkpointLength
+  length-refused n e = rw e
+
+  pub length-told : (c : Cipher) → headCheck code position ≡ accepted c → (n : ℕ) → n ≡ lengthOf c position
+      → record { refusal = 0; value = n } ≡ checkpointLengthCall code position
+  unfolding checkpointLengthCall checkpointLength
+  length-told c e n p = rw (e, p)
 
 -- the tables at a position lead back to a key and an IV exactly where the filled area is one that an expansion fills
 module _ (c : Cipher) (s : List ℕ) (position : ℕ) where
@@ -186,3 +196,14 @@ module _ (h : Head) (string area : List ℕ) where
         → record { refusal = 0; value = record { engine = engineOf new s; key = key; iv = iv } } ≡ loadCall h string area
     unfolding loadCall load
     load-done new s key iv f p q k v = rw (e, found-at c (words rest) position f, p, q, k, v)
+
+module _ (h : Head) where
+  pub spent-refused : (n : ℕ) → headCheck (h .code) (h .position) ≡ refused n
+      → record { refusal = n; value = record { head = h; count = 0 } } ≡ spentCall h
+  unfolding spentCall spent
+  spent-refused n e = rw e
+
+  pub spent-done : (c : Cipher) → headCheck (h .code) (h .position) ≡ accepted c
+      → record { refusal = 0; value = record { head = h; count = h .position } } ≡ spentCall h
+  unfolding spentCall spent
+  spent-done c e = rw e

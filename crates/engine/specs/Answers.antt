@@ -3,7 +3,7 @@ use mathlib.Core.List.{List}
 use Prim.Native.Nat.{ℕ}
 use Rattle.conditions.specs.Result.{Outcome}
 use Rattle.engine.specs.declared.Head.{Head}
-use Rattle.engine.specs.declared.answers.WriteAnswer.{WriteAnswer}
+use Rattle.engine.specs.declared.answers.LengthAnswer.{LengthAnswer}
 use Rattle.engine.specs.declared.answers.LoadAnswer.{LoadAnswer}
 use Rattle.engine.specs.declared.answers.SpentAnswer.{SpentAnswer}
 use Rattle.engine.specs.Calls.{Engine, Ciphered, Written, Recovered, Loaded, Counted}
@@ -18,12 +18,16 @@ ciphered refusal head area bytes =
     record { refusal = refusal; value = record { engine = record { head = head; area = area }; bytes = bytes } }
 
 -- write; its area is lent as `&`, which no call can change, so that `area` is what it held at entry
-abbrev pub written : WriteAnswer → (head : Head) (area lent : List ℕ) → Outcome Written
+abbrev pub written : LengthAnswer → (head : Head) (area lent : List ℕ) → Outcome Written
 written answer head area lent =
     record {
       refusal = answer .refusal;
       value = record { engine = record { head = head; area = area }; length = answer .length; lent = lent };
     }
+
+-- the length of a checkpoint
+abbrev pub told : LengthAnswer → Outcome ℕ
+told answer = record { refusal = answer .refusal; value = answer .length }
 
 -- recover; its area too is lent as `&`
 abbrev pub recovered : (refusal : ℕ) (head : Head) (area key iv : List ℕ) → Outcome Recovered

@@ -1,4 +1,4 @@
--- The seven calls of document 01, as definitions of their inputs. Each has its result, which is the refusal or what an accepted call gives, and
+-- The seven calls of document 01, and the length of a checkpoint of document 02 (g), as definitions of their inputs. Each has its result, which is the refusal or what an accepted call gives, and
 -- its outcome, which says what it leaves, refused or not: head, area and every lent list.
 use mathlib.Core.List.{List, _++_}
 use Prim.Native.Nat.{ℕ, _+_, _-_}
@@ -10,10 +10,10 @@ use Rattle.cipher.specs.Numbers.{byCode, codeOf}
 use Rattle.steps.specs.Steps.{moved}
 use Rattle.keystream.specs.Keystream.{ciphered}
 use Rattle.setup.specs.SetUp as SetUp
-use Rattle.checkpoint.specs.Checkpoint.{layout, putFirst, room}
+use Rattle.checkpoint.specs.Checkpoint.{layout, lengthOf, putFirst}
 use Rattle.conditions.specs.Result.{Result, accepted, Outcome, outcome, _>>=_, _>>_, refuse_unless_, refuse_without_}
 use Rattle.conditions.specs.Limit.{limit}
-use Rattle.conditions.specs.Conditions.{setUpCheck, ready, cipherCheck, moveCheck, recoverCheck, loadCheck}
+use Rattle.conditions.specs.Conditions.{setUpCheck, ready, headCheck, cipherCheck, moveCheck, recoverCheck, loadCheck}
 use Rattle.engine.specs.declared.Head.{Head}
 use Rattle.engine.specs.Head.{headAt}
 
@@ -66,16 +66,25 @@ pub record Written : Type 0 where
   pub length : ℕ
   pub lent : List ℕ
 
--- **Write** puts the checkpoint at the start of the lent bytes and returns its length; later bytes stay. 1, 4, 5. 8: fewer lent bytes than asked.
+-- **Write** puts the checkpoint at the start of the lent bytes and returns its length; later bytes stay. 1, 4, 5. 8: fewer lent bytes than that.
 unfoldable pub write : (head : Head) (area lent : List ℕ) → Result Written
 write h area lent = do
   c ← ready (h .code) (h .position) (length area)
-  refuse 8 unless leb (room c) (length lent)
-  let string = layout c (h .position) area
-  accepted (record { engine = engineOf h area; length = length string; lent = putFirst string lent })
+  let n = lengthOf c (h .position)
+  refuse 8 unless leb n (length lent)
+  accepted (record { engine = engineOf h area; length = n; lent = putFirst (layout c (h .position) area) lent })
 
 unfoldable pub writeCall : (head : Head) (area lent : List ℕ) → Outcome Written
 writeCall h area lent = outcome (record { engine = engineOf h area; length = 0; lent = lent }) (write h area lent)
+
+-- **Checkpoint length** tells a caller how many bytes to lend for the checkpoint of a cipher at a position. 1: code. 5: position.
+unfoldable pub checkpointLength : (code position : ℕ) → Result ℕ
+checkpointLength code position = do
+  c ← headCheck code position
+  accepted (lengthOf c position)
+
+unfoldable pub checkpointLengthCall : (code position : ℕ) → Outcome ℕ
+checkpointLengthCall code position = outcome 0 (checkpointLength code position)
 
 pub record Recovered : Type 0 where
   pub engine : Engine
@@ -122,8 +131,7 @@ pub record Counted : Type 0 where
 -- **Spent** returns how many keystream bytes have been used, which is the position. 1: head's code. 5: position.
 unfoldable pub spent : (head : Head) → Result Counted
 spent h = do
-  refuse 1 without byCode (h .code)
-  refuse 5 unless leb (h .position) limit
+  headCheck (h .code) (h .position)
   accepted (record { head = h; count = h .position })
 
 unfoldable pub spentCall : (head : Head) → Outcome Counted

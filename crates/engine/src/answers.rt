@@ -2,9 +2,9 @@
 // next head.
 use crate::Head;
 
-// The answer of write: the checkpoint's length.
+// The answer of write and of checkpoint length: the checkpoint's length.
 #[repr(C)]
-pub struct WriteAnswer {
+pub struct LengthAnswer {
     pub refusal: u8,
     pub length: usize,
 }
@@ -32,7 +32,7 @@ pub struct Done {
 
 // What write hands back.
 pub struct WriteDone {
-    pub answer: WriteAnswer,
+    pub answer: LengthAnswer,
     pub head: Head,
 }
 

@@ -1,6 +1,7 @@
 // The engine: a head and its table area, and the seven calls of document 01. A call receives the head and hands back the next one beside its
 // answer. A refused call gives its number, and head, area and every lent byte keep their values.
 ghost use mathlib.Core.Path.{_≡_};
+ghost use Prim.Native.Nat.{_≤_};
 ghost use lib.ListN.{replicate};
 ghost use Rattle.engine.specs.Head as Heads;
 ghost use Rattle.engine.specs.Calls as Calls;
@@ -9,13 +10,12 @@ ghost use Rattle.engine.specs.Answers as Answers;
 pub mod answers;
 
 use answers::Done;
+use answers::LengthAnswer;
 use answers::LoadAnswer;
 use answers::LoadDone;
 use answers::SpentAnswer;
 use answers::SpentDone;
-use answers::WriteAnswer;
 use answers::WriteDone;
-use cipher::Known;
 
 // Document 01's head: cipher code and position. Heads are made by the constructors below.
 #[repr(C)]
@@ -29,11 +29,30 @@ pub fn not_written(refusal: u8, head: Head) -> WriteDone
     ensures { λ r. ⌜ r ≡ record { answer = record { refusal = refusal; length = 0 }; head = head } ⌝ }
 {
     WriteDone {
-        answer: WriteAnswer {
+        answer: LengthAnswer {
             refusal: refusal,
             length: 0,
         },
         head: head,
+    }
+}
+
+// The length of a checkpoint of a cipher code at a position: what write takes there at least, and gives.
+pub fn checkpoint_length(code: u8, position: u64) -> LengthAnswer
+    ensures { λ r. ⌜ (Answers.told r ≡ Calls.checkpointLengthCall code position) × (r .length ≤ 8197) ⌝ }
+{
+    let checked = conditions::head_check(code, position);
+    let refusal = checked.refusal;
+    if refusal != 0 {
+        return LengthAnswer {
+            refusal: refusal,
+            length: 0,
+        };
+    }
+    let c = checked.cipher;
+    LengthAnswer {
+        refusal: 0,
+        length: checkpoint::length_of(c, position),
     }
 }
 
@@ -186,12 +205,13 @@ impl Head {
             return not_written(refusal, self);
         }
         let c = checked.cipher;
-        if lent.len() < checkpoint::room(c) {
+        let length = checkpoint::length_of(c, position);
+        if lent.len() < length {
             return not_written(8, self);
         }
-        let length = checkpoint::write_checkpoint(c, position, area, lent);
+        checkpoint::write_checkpoint(c, position, area, lent);
         WriteDone {
-            answer: WriteAnswer {
+            answer: LengthAnswer {
                 refusal: 0,
                 length: length,
             },
@@ -286,12 +306,10 @@ impl Head {
     {
         let code = self.code;
         let position = self.position;
-        let known = cipher::by_code(code);
-        let Known::Is(_) = known else {
-            return not_counted(1, self);
-        };
-        if Self::LIMIT < position {
-            return not_counted(5, self);
+        let checked = conditions::head_check(code, position);
+        let refusal = checked.refusal;
+        if refusal != 0 {
+            return not_counted(refusal, self);
         }
         SpentDone {
             answer: SpentAnswer {

@@ -25,7 +25,8 @@ use Rattle.keystream.proofs.Positions.{moved-on}
 use Rattle.setup.specs.SetUp as SetUp
 use Rattle.setup.specs.SetUp.{found}
 use Rattle.setup.proofs.Inverse.{set-up-area}
-use Rattle.checkpoint.specs.Checkpoint.{layout, room}
+use Rattle.checkpoint.specs.Checkpoint.{lengthOf}
+use Rattle.checkpoint.proofs.Checkpoint.{layout-length}
 use Rattle.engine.specs.declared.Head.{Head}
 use Rattle.conditions.specs.Result.{Result, refused, accepted, Outcome}
 use Rattle.conditions.specs.Limit.{limit}
@@ -33,12 +34,13 @@ use Rattle.engine.specs.Head.{freshHead, headAt}
 use Rattle.conditions.specs.Conditions.{undoAt, foundOr12, Contents, setUpCheck, cipherCheck, loadCheck}
 use Rattle.engine.specs.Calls.{Engine, setUp, setUpCall, cipher, cipherCall, move, moveCall, write, writeCall, recover, recoverCall, load, loadCall}
 use Rattle.conditions.proofs.Conditions.{ready-accepted}
+use Rattle.engine.proofs.Calls.{write-done}
 use Rattle.theorems.specs.Account.{Four, IsFour, atPosition, Checkpoint, tablesOf, checkpointOf}
 use Rattle.theorems.proofs.Results.{no-refusal, accepted-one, after-line}
 use Rattle.theorems.proofs.Conditions.{accepted-only, load-passed, move-accepted, recover-finds}
 use Rattle.theorems.proofs.Checkpoints.{loadedOf, load-checkpoint}
 use Rattle.theorems.proofs.Twice.{ciphered-twice}
-use Rattle.theorems.proofs.Tables.{moved-area, four-sized, four-moved, undo-finds}
+use Rattle.theorems.proofs.Tables.{moved-area, four-sized, four-ready, four-moved, undo-finds}
 use Rattle.lab.specs.Tasks.{cipherOf, loadFresh, moveTo, loadAndMove, openCheckpoint, setUpAt, thenWrite, writeAt, rewriteAt, recoverFrom}
 use Rattle.lab.specs.FromCheckpoint.{cipherAfter, streamed, checkpointPut, FromCheckpoint}
 use Rattle.lab.proofs.Advance.{load-not-0}
@@ -244,21 +246,21 @@ moved-four f q h l =
     let sized = four-sized f (tablesOf f) h refl in
     rw (move-accepted c p (length (tablesOf f)) (pos q -ℤ pos p) q sized (h .within) (ends-at p q) l, four-moved f q h)
 
-write-four : (f : Four) (lent : List ℕ) → IsFour f → room (f .cipher) ≤ length lent
+write-four : (f : Four) (lent : List ℕ) → IsFour f → lengthOf (f .cipher) (f .position) ≤ length lent
     → writeCall (headAt (codeOf (f .cipher)) (f .position)) (tablesOf f) lent
     ≡ checkpointPut f lent
-unfolding writeCall write checkpointOf
+unfolding checkpointOf
 write-four f lent h l =
-    let c = f .cipher in
     let sized = four-sized f (tablesOf f) h refl in
-    rw (ready-accepted (codeOf c) (f .position) (length (tablesOf f)) c (code-of c) sized (h .within), le-leb (room c) (length lent) l)
+    let n = layout-length (f .cipher) (f .position) (tablesOf f) sized in
+    sym (write-done _ (tablesOf f) lent (f .cipher) (four-ready f (tablesOf f) h refl) _ _ n (omega arith) refl)
 
-then-write : (f : Four) (lent : List ℕ) → IsFour f → room (f .cipher) ≤ length lent
+then-write : (f : Four) (lent : List ℕ) → IsFour f → lengthOf (f .cipher) (f .position) ≤ length lent
     → thenWrite (record { refusal = 0; value = record { head = headAt (codeOf (f .cipher)) (f .position); area = tablesOf f } }) lent
     ≡ checkpointPut f lent
 then-write f lent h l = rw (write-four f lent h l)
 
-writes : (area lent : List ℕ) (f : Four) → IsFour f → length area ≡ areaLength (f .cipher) → room (f .cipher) ≤ length lent
+writes : (area lent : List ℕ) (f : Four) → IsFour f → length area ≡ areaLength (f .cipher) → lengthOf (f .cipher) (f .position) ≤ length lent
     → writeAt (codeOf (f .cipher)) (f .key) (f .iv) area (f .position) lent ≡ checkpointPut f lent
 unfolding writeAt setUpAt
 writes area lent f h z l =
@@ -267,7 +269,7 @@ writes area lent f h z l =
     rw (set-up-is c (f .key) (f .iv) area (h .pair) z, ← at-0 c (f .key) (f .iv), start) (then-write f lent h l)
 
 rewrites : (string area lent : List ℕ) (f : Four) (position : ℕ) → Checkpoint string f → length area ≡ areaLength (f .cipher)
-    → position ≤ limit → room (f .cipher) ≤ length lent
+    → position ≤ limit → lengthOf (f .cipher) position ≤ length lent
     → rewriteAt string area position lent ≡ checkpointPut (atPosition f position) lent
 unfolding rewriteAt loadAndMove engineIn
 rewrites string area lent f position h z w l =

@@ -10,7 +10,7 @@ use mir.Val.{SFits, toZ, ofZ}
 use mir.ValLaws.{toZ-ofZ, toZ-pos}
 use lib.Dec.{leb, ltb}
 use lib.IntN.{ℤ, pos, negsuc, negℤ, _+ℤ_, _-ℤ_, +ℤ-comm, +ℤ-idl, -ℤ-+ℤ-cancel}
-use lib.ListN.{length, length-append}
+use lib.ListN.{length, drop, length-append}
 use lib.Seq.{length-take-le}
 use Rattle.cipher.specs.declared.Cipher.{Cipher}
 use Rattle.engine.specs.declared.Head.{Head}
@@ -24,10 +24,9 @@ use Rattle.conditions.specs.Conditions.{ready, endOf}
 use Rattle.engine.specs.Calls.{Engine, engineOf, setUpCall, moveCall, write, writeCall, recoverCall, loadCall}
 use Rattle.engine.specs.Calls as Calls
 use Rattle.engine.specs.Answers as Answers
-use Rattle.checkpoint.specs.Checkpoint.{layout, room}
 use Rattle.engine.proofs.Calls.{move-refused, move-unreached}
-use Rattle.theorems.proofs.Results.{no-refusal, accepted-one, after-line, after-unless}
-use Rattle.theorems.proofs.Conditions.{ready-shows}
+use Rattle.theorems.specs.Demand3.{given}
+use Rattle.theorems.proofs.Writes.{write-shows}
 use Rattle.lab.specs.Tasks as Tasks
 use Rattle.lab.specs.Tasks.{loadFresh, moveTo, loadAndMove, openCheckpoint, setUpAt, thenWrite, recoverFrom}
 
@@ -134,14 +133,10 @@ module _ (string area : List ℕ) (r : Done) (s : List ℕ) (e : Answers.done (r
 -- the lent bytes after a write are at least as many as the checkpoint's
 write-counts : (h : Head) (area lent : List ℕ) (x : Result Calls.Written) → write h area lent ≡ x
     → let w = outcome (record { engine = engineOf h area; length = 0; lent = lent }) x .value in w .length ≤ length (w .lent)
-unfolding write
 write-counts h area lent (refused n) e = omega arith
 write-counts h area lent (accepted w) e =
-    after-line (ready (h .code) (h .position) (length area)) _ e (λ _. no-refusal) λ c e₁ r₁.
-    after-unless 8 (leb (room c) (length lent)) _ r₁ no-refusal λ e₂ r₂.
-    let string = layout c (h .position) area in
-    subst (λ (y : Calls.Written). y .length ≤ length (y .lent)) (accepted-one refl r₂)
-    (simp length-append (omega arith))
+    let (c, s) = write-shows h area lent w e in
+    omega (arith, ap length (s .later), length-append (given w) (drop (w .length) lent), s .as-long)
 
 counts : (n : ℕ) (bytes : List ℕ) → n ≤ length bytes → Tasks.Counts n bytes
 counts n bytes l = (l, sym (length-take-le n bytes l))

@@ -5,7 +5,7 @@ use Prim.Native.Nat.{ℕ, _≤_}
 use lib.ListN.{length}
 use Rattle.cipher.specs.Numbers.{codeOf, areaLength, keyLength, ivLength}
 use Rattle.setup.specs.SetUp as SetUp
-use Rattle.checkpoint.specs.Checkpoint.{putFirst, room}
+use Rattle.checkpoint.specs.Checkpoint.{lengthOf, putFirst}
 use Rattle.conditions.specs.Result.{Outcome}
 use Rattle.conditions.specs.Limit.{limit}
 use Rattle.engine.specs.Head.{freshHead, headAt}
@@ -78,10 +78,11 @@ pub record FromCheckpoint : Type 0 where
       }
   -- Written with a key and an IV, the lent bytes begin with the checkpoint of that cipher, key, IV and position.
   pub writes :
-      (area lent : List ℕ) (f : Four) → IsFour f → length area ≡ areaLength (f .cipher) → room (f .cipher) ≤ length lent
+      (area lent : List ℕ) (f : Four) → IsFour f → length area ≡ areaLength (f .cipher)
+      → lengthOf (f .cipher) (f .position) ≤ length lent
       → writeAt (codeOf (f .cipher)) (f .key) (f .iv) area (f .position) lent ≡ checkpointPut f lent
   -- Written from a checkpoint, they begin with that of the same cipher, key and IV at the other position.
   pub rewrites :
       (string area lent : List ℕ) (f : Four) (position : ℕ) → Checkpoint string f → length area ≡ areaLength (f .cipher)
-      → position ≤ limit → room (f .cipher) ≤ length lent
+      → position ≤ limit → lengthOf (f .cipher) position ≤ length lent
       → rewriteAt string area position lent ≡ checkpointPut (atPosition f position) lent

@@ -17,14 +17,14 @@ use Rattle.engine.specs.declared.Head.{Head}
 use Rattle.conditions.specs.Result.{Result, refused, accepted, outcome, _>>=_, refuse_without_}
 use Rattle.conditions.specs.Limit.{limit}
 use Rattle.engine.specs.Head.{headAt}
-use Rattle.checkpoint.specs.Checkpoint.{room}
-use Rattle.conditions.specs.Conditions.{setUpCheck, ready, cipherCheck, moveCheck, recoverCheck, Contents, loadCheck}
+use Rattle.conditions.specs.Conditions.{setUpCheck, headCheck, cipherCheck, moveCheck, recoverCheck, Contents, loadCheck}
 use Rattle.engine.specs.Calls.{Engine, engineOf, Ciphered, Written, Recovered, Loaded, Counted, setUp, setUpCall, cipher, cipherCall, move, moveCall, write, writeCall, recover, recoverCall, load, loadCall, spent, spentCall}
 use Rattle.theorems.specs.Account.{Call, call-set-up, call-cipher, call-move, call-write, call-recover, call-load, call-spent, Given, AllGiven, called, run, Four, IsFour, Account, empty, holds, accountCode, accountPosition, at, unless-refused, feed, account, engineAfter, accountAfter, tablesOf}
-use Rattle.theorems.proofs.Results.{no-refusal, outcome-same, accepted-one, after-first, after-line, after-unless}
+use Rattle.theorems.proofs.Results.{no-refusal, outcome-same, accepted-one, after-first, after-line}
 use Rattle.theorems.proofs.Tables.{four-sized, four-moved}
 use Rattle.theorems.proofs.Conditions.{same-code, no-code-0, ReadyShows, set-up-shows, cipher-shows, move-shows}
 use Rattle.theorems.proofs.Checkpoints.{fourOf, load-shows}
+use Rattle.theorems.proofs.Writes.{write-shows}
 
 -- the head of an account
 abbrev pub headOf : Account → Head
@@ -50,12 +50,9 @@ module _ {A B : Type 0} (P : Account → Engine → Type 0) (a : Account) (f : A
 -- ── write, recover and spent leave the engine ──
 
 write-engine : (h : Head) (area lent : List ℕ) → writeCall h area lent .value .engine ≡ engineOf h area
-unfolding writeCall write
+unfolding writeCall
 write-engine h area lent =
-    outcome-same (λ (w : Written). w .engine) _ (write h area lent) λ w e.
-    after-line (ready (h .code) (h .position) (length area)) _ e (λ _. no-refusal) λ c e₁ r₁.
-    after-unless 8 (leb (room c) (length lent)) _ r₁ no-refusal λ e₂ r₂.
-    ap (λ (x : Written). x .engine) (sym (accepted-one refl r₂))
+    outcome-same (λ (w : Written). w .engine) _ (write h area lent) λ w e. write-shows h area lent w e .1 .engine-is
 
 recover-engine : (h : Head) (area key iv : List ℕ) → recoverCall h area key iv .value .engine ≡ engineOf h area
 unfolding recoverCall recover
@@ -68,8 +65,7 @@ spent-head : (h : Head) → spentCall h .value .head ≡ h
 unfolding spentCall spent
 spent-head h =
     outcome-same (λ (n : Counted). n .head) _ (spent h) λ n e.
-    after-unless 5 (leb (h .position) limit) _ (after-first (refuse 1 without byCode (h .code)) _ e) no-refusal λ e₁ r₁.
-    ap (λ (x : Counted). x .head) (sym (accepted-one refl r₁))
+    ap (λ (x : Counted). x .head) (sym (accepted-one refl (after-first (headCheck (h .code) (h .position)) _ e)))
 
 -- ── one call, from the account's head ──
 

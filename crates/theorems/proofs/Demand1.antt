@@ -14,11 +14,11 @@ use Rattle.cipher.specs.Numbers.{byCode, areaLength, keyLength, ivLength}
 use Rattle.setup.specs.SetUp as SetUp
 use Rattle.setup.specs.SetUp.{Undone}
 use Rattle.varint.specs.Number.{Reading, is, ended, malformed, readNumber}
-use Rattle.checkpoint.specs.Checkpoint.{mostGroups, room}
+use Rattle.checkpoint.specs.Checkpoint.{mostGroups, lengthOf}
 use Rattle.conditions.specs.Result.{Result, refused, accepted, Outcome, outcome, _>>=_, _>>_, refuse_unless_, refuse_without_}
 use Rattle.conditions.specs.Limit.{limit}
-use Rattle.conditions.specs.Conditions.{setUpCheck, ready, cipherCheck, within, endOf, moveCheck, undoAt, foundOr12, recoverCheck, positionRead, firstByte, loadFound, loadCheck}
-use Rattle.engine.specs.Calls.{setUp, setUpCall, cipher, cipherCall, move, moveCall, write, writeCall, recover, recoverCall, load, loadCall, spent, spentCall}
+use Rattle.conditions.specs.Conditions.{setUpCheck, ready, headCheck, cipherCheck, within, endOf, moveCheck, undoAt, foundOr12, recoverCheck, positionRead, firstByte, loadFound, loadCheck}
+use Rattle.engine.specs.Calls.{setUp, setUpCall, cipher, cipherCall, move, moveCall, write, writeCall, checkpointLength, checkpointLengthCall, recover, recoverCall, load, loadCall, spent, spentCall}
 use Rattle.theorems.specs.Demand1.{AcceptedOrRefused, Demand1}
 
 -- the refusal of a result, if it is one, is one of these numbers
@@ -50,10 +50,9 @@ module _ {numbers : List ℕ} where
   line-without n none f h k = by-one h
   line-without n (some a) f h k = k a
 
-  line-known : {A B : Type 0} (n : ℕ) (o : Option A) (q : Result B) → List·Memᴰ n numbers → Within numbers q
-      → Within numbers ((refuse n without o) >> q)
-  line-known n none q h k = by-one h
-  line-known n (some a) q h k = k
+  first-line : {A B : Type 0} (r : Result A) (q : Result B) → Within numbers r → Within numbers q → Within numbers (r >> q)
+  first-line (refused n) q (by-one h) k = by-one h
+  first-line (accepted a) q h k = k
 
   -- where a result is within the numbers, its outcome is an answer with one of them
   answers : {A : Type 0} (old : A) (r : Result A) → Within numbers r → AcceptedOrRefused numbers old r (outcome old r)
@@ -66,6 +65,10 @@ module _ {numbers : List ℕ} where
   unfolding ready
   ready-within code position size a b c =
       line-without 1 (byCode code) _ a λ x. line-unless 4 (eqb size (areaLength x)) _ b (line-unless 5 (leb position limit) _ c by-none)
+
+  head-within : (code position : ℕ) → List·Memᴰ 1 numbers → List·Memᴰ 5 numbers → Within numbers (headCheck code position)
+  unfolding headCheck
+  head-within code position a b = line-without 1 (byCode code) _ a λ x. line-unless 5 (leb position limit) _ b by-none
 
   found-within : (u : Undone) → List·Memᴰ 12 numbers → Within numbers (foundOr12 u)
   found-within SetUp.none h = by-one h
@@ -81,7 +84,7 @@ module _ {numbers : List ℕ} where
   position-within malformed a b = by-one b
 
 pub demand1 : Demand1
-unfolding setUpCall setUp setUpCheck cipherCall cipher cipherCheck moveCall move moveCheck endOf writeCall write recoverCall recover recoverCheck loadCall load loadCheck spentCall spent
+unfolding setUpCall setUp setUpCheck cipherCall cipher cipherCheck moveCall move moveCheck endOf writeCall write checkpointLengthCall checkpointLength recoverCall recover recoverCheck loadCall load loadCheck spentCall spent
 demand1 = record {
   of-set-up = λ h code key iv area.
       answers _ (setUp code key iv area)
@@ -110,7 +113,10 @@ demand1 = record {
       answers _ (write h area lent)
       (then-line (ready (h .code) (h .position) (length area)) _
       (ready-within (h .code) (h .position) (length area) first (after first) (after (after first))) λ c.
-      line-unless 8 (leb (room c) (length lent)) _ (after (after (after first))) by-none);
+      line-unless 8 (leb (lengthOf c (h .position)) (length lent)) _ (after (after (after first))) by-none);
+  of-checkpoint-length = λ code position.
+      answers _ (checkpointLength code position)
+      (then-line (headCheck code position) _ (head-within code position first (after first)) λ c. by-none);
   of-recover = λ h area key iv.
       answers _ (recover h area key iv)
       (then-line (recoverCheck (h .code) (h .position) area (length key) (length iv)) _
@@ -137,5 +143,5 @@ demand1 = record {
       (λ l. by-none));
   of-spent = λ h.
       answers _ (spent h)
-      (line-known 1 (byCode (h .code)) _ first (line-unless 5 (leb (h .position) limit) _ (after first) by-none));
+      (first-line (headCheck (h .code) (h .position)) _ (head-within (h .code) (h .position) first (after first)) by-none);
 }

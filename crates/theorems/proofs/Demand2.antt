@@ -27,12 +27,11 @@ use Rattle.conditions.specs.Limit.{limit}
 use Rattle.engine.specs.Head.{headAt}
 use Rattle.conditions.specs.Conditions.{ready, cipherCheck, endOf, moveCheck}
 use Rattle.engine.specs.Calls.{Engine, engineOf, Ciphered, setUp, cipher, move, recover, spent}
-use Rattle.conditions.proofs.Conditions.{set-up-accepted, ready-accepted}
-use Rattle.engine.proofs.Spent.{spent-accepted}
+use Rattle.conditions.proofs.Conditions.{set-up-accepted, head-accepted}
 use Rattle.theorems.specs.Account.{Four, IsFour, atPosition, holds, tablesOf, engineOfFour}
 use Rattle.theorems.specs.Demand2.{Demand2}
 use Rattle.theorems.proofs.Results.{no-refusal, accepted-one, after-line, after-unless}
-use Rattle.theorems.proofs.Tables.{moved-area, moved-undone, undo-finds, four-sized, four-moved}
+use Rattle.theorems.proofs.Tables.{moved-area, moved-undone, undo-finds, four-sized, four-ready, four-moved}
 use Rattle.theorems.proofs.Twice.{ciphered-twice}
 use Rattle.theorems.proofs.Conditions.{same-code, cipher-shows, move-shows, move-accepted, recover-finds}
 use Rattle.theorems.proofs.Agree.{headOf, agree, agree-four}
@@ -43,9 +42,7 @@ four-cipherable : (f : Four) (area bytes : List ℕ) → IsFour f → area ≡ t
     → (r : Ciphered) × (cipher (headOf (holds f)) area bytes ≡ accepted r)
 unfolding cipher cipherCheck
 four-cipherable f area bytes h t l =
-    let c = f .cipher in
-    let r = ready-accepted (codeOf c) (f .position) (length area) c (code-of c) (four-sized f area h t) (h .within) in
-    rw (r, le-leb (f .position + length bytes) limit l) (_, refl)
+    rw (four-ready f area h t, le-leb (f .position + length bytes) limit l) (_, refl)
 
 four-movable : (f : Four) (d : ℤ) (end : ℕ) → IsFour f → pos (f .position) +ℤ d ≡ pos end → end ≤ limit
     → move (headOf (holds f)) (tablesOf f) d ≡ accepted (engineOfFour (atPosition f end))
@@ -75,7 +72,8 @@ four-set-up c key iv area pair z =
     )
 
 four-spent : (f : Four) → IsFour f → spent (headOf (holds f)) ≡ accepted (record { head = headOf (holds f); count = f .position })
-four-spent f h = spent-accepted (headOf (holds f)) (f .cipher) (code-of (f .cipher)) (h .within)
+unfolding spent
+four-spent f h = rw (head-accepted (codeOf (f .cipher)) (f .position) (f .cipher) (code-of (f .cipher)) (h .within))
 
 four-enciphered : (f : Four) (area bytes : List ℕ) (r : Ciphered) → area ≡ tablesOf f
     → cipher (headOf (holds f)) area bytes ≡ accepted r → (i : ℕ) → i < length bytes

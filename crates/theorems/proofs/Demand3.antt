@@ -5,11 +5,8 @@ use mathlib.Core.List.{List, [], _∷_, _++_}
 use mathlib.Core.Logic.{_↔_}
 use Prim.Native.Nat.{ℕ, _≤_}
 use native.Mathlib.Omega.{arith}
-use borrow.Author.Tests.{le-leb}
-use lib.Dec.{leb}
 use lib.IntN.{pos, +ℤ-idl}
 use lib.ListN.{length, drop}
-use lib.Seq.{take-append-seam}
 use Rattle.word.specs.Bytes.{AllBytes}
 use Rattle.cipher.specs.declared.Cipher.{Cipher}
 use Rattle.cipher.specs.Numbers.{codeOf, areaLength}
@@ -17,47 +14,22 @@ use Rattle.cipher.proofs.Codes.{code-of}
 use Rattle.engine.specs.declared.Head.{Head}
 use Rattle.conditions.specs.Result.{Result, refused, accepted}
 use Rattle.engine.specs.Head.{headAt}
-use Rattle.checkpoint.specs.Checkpoint.{layout, room}
-use Rattle.checkpoint.proofs.Checkpoint.{layout-room}
+use Rattle.checkpoint.specs.Checkpoint.{layout, lengthOf, longest}
+use Rattle.checkpoint.proofs.Checkpoint.{length-longest}
 use Rattle.conditions.specs.Conditions.{ready, Contents, loadCheck}
 use Rattle.engine.specs.Calls.{Written, Loaded, eightWords, write, load}
-use Rattle.conditions.proofs.Conditions.{set-up-accepted, ready-accepted}
+use Rattle.conditions.proofs.Conditions.{set-up-accepted}
 use Rattle.theorems.specs.Account.{Call, call-set-up, call-move, call-load, AllGiven, Four, IsFour, Account, empty, holds, unless-refused, feed, account, engineAfter, accountAfter, tablesOf, checkpointOf, Checkpoint}
 use Rattle.theorems.specs.Demand3.{writeAfter, given, Names, Demand3}
-use Rattle.theorems.proofs.Results.{no-refusal, accepted-one, after-line, after-unless}
-use Rattle.theorems.proofs.Tables.{four-sized}
-use Rattle.theorems.proofs.Conditions.{same-code, no-code-0, ReadyShows, ready-shows, move-accepted}
+use Rattle.theorems.proofs.Results.{no-refusal, accepted-one, after-line}
+use Rattle.theorems.proofs.Tables.{four-ready}
+use Rattle.theorems.proofs.Conditions.{same-code, no-code-0, move-accepted}
 use Rattle.theorems.proofs.Checkpoints.{fourOf, loadedOf, load-checkpoint, load-shows, load-is, checkpoint-of-one}
 use Rattle.theorems.proofs.Names.{name-of-one}
+use Rattle.theorems.proofs.Writes.{WriteShows, write-shows, write-iff}
 use Rattle.theorems.proofs.Agree.{headOf, TablesAre, agree, agree-four}
 
 -- ── what is written ──
-
--- an accepted write gives the layout of head and area in the room asked for, and later bytes stay
-record WriteShows (h : Head) (area lent : List ℕ) (w : Written) (c : Cipher) : Type 0 where
-  is-ready : ReadyShows (h .code) (h .position) (length area) c
-  string : given w ≡ layout c (h .position) area
-  in-room : w .length ≤ room c
-  as-long : length (given w) ≡ w .length
-  later : w .lent ≡ given w ++ drop (w .length) lent
-
-write-shows : (h : Head) (area lent : List ℕ) (w : Written) → write h area lent ≡ accepted w → (c : Cipher) × WriteShows h area lent w c
-unfolding write
-write-shows h area lent w e =
-    after-line (ready (h .code) (h .position) (length area)) _ e (λ _. no-refusal) λ c e₁ r₁.
-    after-unless 8 (leb (room c) (length lent)) _ r₁ no-refusal λ e₂ r₂.
-    let r = ready-shows (h .code) (h .position) (length area) c e₁ in
-    subst (λ (x : Written). (c : Cipher) × WriteShows h area lent x c) (accepted-one refl r₂) (
-      c,
-      record {
-        is-ready = r;
-        string = take-append-seam (layout c (h .position) area) _;
-        in-room = layout-room c (h .position) area (r .sized) (omega arith);
-        as-long = ap length (take-append-seam (layout c (h .position) area) _);
-        later =
-            ap (λ (x : List ℕ). x ++ drop (length (layout c (h .position) area)) lent) (sym (take-append-seam (layout c (h .position) area) _));
-      },
-    )
 
 -- from the head of a four
 four-write-shows : (f : Four) (area lent : List ℕ) (w : Written) → write (headOf (holds f)) area lent ≡ accepted w
@@ -91,27 +63,22 @@ written calls g area lent w e =
 fits :
     (calls : List Call) → AllGiven calls → (area lent : List ℕ) (f : Four) (w : Written)
     → accountAfter calls area ≡ holds f → writeAfter calls area lent ≡ accepted w
-    → (w .length ≤ room (f .cipher)) × (length (given w) ≡ w .length) × (w .lent ≡ given w ++ drop (w .length) lent)
+    → (w .length ≡ lengthOf (f .cipher) (f .position)) × (w .length ≤ longest (f .cipher)) × (length (given w) ≡ w .length)
+    × (w .lent ≡ given w ++ drop (w .length) lent)
 fits calls g area lent f w q e =
     let h = agree-four calls g area f q in
     let s = four-write-shows f (engineAfter calls area .area) lent w (rw (h .head-is) at e) in
-    (s .in-room, s .as-long, s .later)
-
-write-accepted : (f : Four) (area lent : List ℕ) → IsFour f → area ≡ tablesOf f → room (f .cipher) ≤ length lent
-    → (w : Written) × (write (headOf (holds f)) area lent ≡ accepted w)
-unfolding write
-write-accepted f area lent h e l =
-    let c = f .cipher in
-    let r = ready-accepted (codeOf c) (f .position) (length area) c (code-of c) (four-sized f area h e) (h .within) in
-    rw (r, le-leb (room c) (length lent) l) (_, refl)
+    let l = length-longest (f .cipher) (f .position) (omega (arith, h .tables-are .0 .within)) in
+    (s .length-is, omega (arith, s .length-is), s .as-long, s .later)
 
 writable :
     (calls : List Call) → AllGiven calls → (area lent : List ℕ) (f : Four)
-    → accountAfter calls area ≡ holds f → room (f .cipher) ≤ length lent
-    → (w : Written) × (writeAfter calls area lent ≡ accepted w)
-writable calls g area lent f e l =
+    → accountAfter calls area ≡ holds f
+    → ((w : Written) × (writeAfter calls area lent ≡ accepted w)) ↔ (lengthOf (f .cipher) (f .position) ≤ length lent)
+writable calls g area lent f e =
     let h = agree-four calls g area f e in
-    rw (h .head-is) (write-accepted f (engineAfter calls area .area) lent (h .tables-are .0) (h .tables-are .1) l)
+    let s = engineAfter calls area .area in
+    rw (h .head-is) (write-iff (headOf (holds f)) s lent (f .cipher) (four-ready f s (h .tables-are .0) (h .tables-are .1)))
 
 -- a set up, and then a move
 reached :

@@ -10,7 +10,9 @@ pub mod Zeros
 pub mod Conditions
 pub mod Checkpoints
 pub mod Names
+pub mod Writes
 pub mod Agree
 pub mod Demand3
+pub mod CheckpointLength
 pub mod Refusal12
 pub mod Demand2

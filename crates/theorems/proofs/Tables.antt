@@ -9,7 +9,8 @@ use lib.ListN.{length}
 use Rattle.laws.proofs.Iterate.{forward-from}
 use Rattle.laws.proofs.Lists.{below-or-not}
 use Rattle.cipher.specs.declared.Cipher.{Cipher}
-use Rattle.cipher.specs.Numbers.{areaLength}
+use Rattle.cipher.specs.Numbers.{codeOf, areaLength}
+use Rattle.cipher.proofs.Codes.{code-of}
 use Rattle.tables.specs.Area.{Area}
 use Rattle.tables.specs.Step.{step}
 use Rattle.keys.specs.Key.{Pair}
@@ -18,7 +19,9 @@ use Rattle.steps.proofs.Moved.{moved-up, moved-down}
 use Rattle.steps.proofs.Inverse.{steps-area, steps-back-area, steps-undone, steps-redone}
 use Rattle.setup.specs.SetUp.{setUp, found}
 use Rattle.setup.proofs.Inverse.{set-up-area, set-up-undone, set-up-redone}
-use Rattle.conditions.specs.Conditions.{undoAt}
+use Rattle.conditions.specs.Result.{accepted}
+use Rattle.conditions.specs.Conditions.{ready, undoAt}
+use Rattle.conditions.proofs.Conditions.{ready-accepted}
 use Rattle.theorems.specs.Account.{Four, IsFour, tablesOf}
 
 -- ── moves ──
@@ -77,6 +80,11 @@ four-area f h = steps-area (f .cipher) _ 0 (stepsAt (f .position)) (set-up-area 
 
 pub four-sized : (f : Four) (s : List ℕ) → IsFour f → s ≡ tablesOf f → length s ≡ areaLength (f .cipher)
 four-sized f s h e = ap length e ∙ four-area f h .sized
+
+-- its code, area and position are right
+pub four-ready : (f : Four) (area : List ℕ) → IsFour f → area ≡ tablesOf f → ready (codeOf (f .cipher)) (f .position) (length area) ≡ accepted (f .cipher)
+four-ready f area h e =
+    ready-accepted (codeOf (f .cipher)) (f .position) (length area) (f .cipher) (code-of (f .cipher)) (four-sized f area h e) (h .within)
 
 pub four-moved : (f : Four) (q : ℕ) → IsFour f
     → moved (f .cipher) (tablesOf f) (f .position) q ≡ tablesOf (record { cipher = f .cipher; key = f .key; iv = f .iv; position = q })

@@ -8,8 +8,8 @@ use lib.IntN.{ℤ}
 use lib.ListN.{replicate}
 use Rattle.conditions.specs.Result.{Result, refused, accepted, Outcome}
 use Rattle.engine.specs.declared.Head.{Head}
-use Rattle.engine.specs.Calls.{engineOf, setUp, cipher, move, write, recover, load, spent}
-use Rattle.engine.specs.Calls.{setUpCall, cipherCall, moveCall, writeCall, recoverCall, loadCall, spentCall}
+use Rattle.engine.specs.Calls.{engineOf, setUp, cipher, move, write, checkpointLength, recover, load, spent}
+use Rattle.engine.specs.Calls.{setUpCall, cipherCall, moveCall, writeCall, checkpointLengthCall, recoverCall, loadCall, spentCall}
 
 module _ {A : Type 0} where
   -- the call is accepted: its refusal is 0, and what it leaves is what its result gives
@@ -45,6 +45,8 @@ pub record Demand1 : Type 0 where
       (h : Head) (area lent : List ℕ)
       → AcceptedOrRefused (1 ∷ 4 ∷ 5 ∷ 8 ∷ []) (record { engine = engineOf h area; length = 0; lent = lent })
       (write h area lent) (writeCall h area lent)
+  pub of-checkpoint-length :
+      (code position : ℕ) → AcceptedOrRefused (1 ∷ 5 ∷ []) 0 (checkpointLength code position) (checkpointLengthCall code position)
   pub of-recover :
       (h : Head) (area key iv : List ℕ)
       → AcceptedOrRefused (1 ∷ 4 ∷ 5 ∷ 2 ∷ 3 ∷ 12 ∷ []) (record { engine = engineOf h area; key = key; iv = iv })

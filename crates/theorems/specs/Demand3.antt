@@ -8,7 +8,7 @@ use Rattle.word.specs.Bytes.{AllBytes}
 use Rattle.cipher.specs.Numbers.{codeOf, areaLength}
 use Rattle.conditions.specs.Result.{Result, accepted}
 use Rattle.engine.specs.Calls.{Written, Loaded, eightWords, write, load}
-use Rattle.checkpoint.specs.Checkpoint.{room}
+use Rattle.checkpoint.specs.Checkpoint.{lengthOf, longest}
 use Rattle.theorems.specs.Account.{Call, AllGiven, Four, IsFour, Account, holds, feed, call-load, engineAfter, accountAfter, Checkpoint}
 
 -- a write after a list of calls
@@ -32,16 +32,18 @@ pub record Demand3 : Type 0 where
       (calls : List Call) → AllGiven calls → (area lent : List ℕ) (w : Written)
       → writeAfter calls area lent ≡ accepted w
       → (f : Four) × (accountAfter calls area ≡ holds f) × Checkpoint (given w) f
-  -- What is written is as long as the returned length, which is at most the room that write asks for, and later bytes stay.
+  -- What is written is as long as the returned length, which is that of a checkpoint of the four's cipher at its position and at most 4,101 or 8,197;
+  -- later bytes stay.
   pub fits :
       (calls : List Call) → AllGiven calls → (area lent : List ℕ) (f : Four) (w : Written)
       → accountAfter calls area ≡ holds f → writeAfter calls area lent ≡ accepted w
-      → (w .length ≤ room (f .cipher)) × (length (given w) ≡ w .length) × (w .lent ≡ given w ++ drop (w .length) lent)
-  -- A write with room is accepted whenever the account is a four.
+      → (w .length ≡ lengthOf (f .cipher) (f .position)) × (w .length ≤ longest (f .cipher)) × (length (given w) ≡ w .length)
+      × (w .lent ≡ given w ++ drop (w .length) lent)
+  -- Whenever the account is a four, a write is accepted exactly where so many bytes are lent.
   pub writable :
       (calls : List Call) → AllGiven calls → (area lent : List ℕ) (f : Four)
-      → accountAfter calls area ≡ holds f → room (f .cipher) ≤ length lent
-      → (w : Written) × (writeAfter calls area lent ≡ accepted w)
+      → accountAfter calls area ≡ holds f
+      → ((w : Written) × (writeAfter calls area lent ≡ accepted w)) ↔ (lengthOf (f .cipher) (f .position) ≤ length lent)
   -- Every four is the account of some list, on every area of its cipher's size.
   pub reached :
       (f : Four) → IsFour f → (area : List ℕ) → length area ≡ areaLength (f .cipher)

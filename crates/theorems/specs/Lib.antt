@@ -7,3 +7,4 @@ pub mod Account
 pub mod Demand3
 pub mod Demand2
 pub mod Refusal12
+pub mod CheckpointLength

@@ -70,6 +70,12 @@ pub number-some : (n : ℕ) → 1 ≤ length (number n)
 unfolding number
 number-some n = groups-cases (λ l. 1 ≤ length l) 9 n (λ l. omega arith) (λ l. omega arith)
 
+-- how many groups a number of at least 128 has
+pub number-count : (k n : ℕ) → n < 128 ^ 10 → 128 ^ suc k ≤ n → n < 128 ^ suc (suc k) → length (number n) ≡ suc (suc k)
+number-count zero n h l m = rw (number-more n l (omega arith), number-last (n / 128) (omega arith))
+number-count (suc k) n h l m =
+    rw (number-more n (omega arith) (omega arith), number-count k (n / 128) (omega arith) (omega arith) (omega arith))
+
 groups-bytes : (k n i : ℕ) → getD (groups k n) i 0 < 256
 unfolding groups
 groups-bytes zero n = λ i. omega arith

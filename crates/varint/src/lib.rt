@@ -19,6 +19,16 @@ pub fn write_number(n: u64, out: &mut [u8], at: usize) -> usize
     write_number(n / 128, out, at + 1)
 }
 
+// How many groups n has.
+pub fn count_groups(n: u64) -> usize
+    ensures { λ r. ⌜ (r ≡ length (Number.number n)) × (r ≤ 10) ⌝ }
+{
+    if n < 128 {
+        return 1;
+    }
+    1 + count_groups(n / 128)
+}
+
 // What a reader finds: a number and the place after it, the string's end before the last group, or a number that is malformed.
 pub enum Read {
     Number { value: u64, next: usize },

@@ -5,27 +5,15 @@ use borrow.Author.Needs.{needs}
 use denote.Ref.{now}
 use lib.ListN.{length-set}
 use Rattle.cipher.proofs.Sizes.{sizes}
-use Rattle.checkpoint.proofs.Checkpoint.{position-length, layout-length, layout-room, layout-stored}
+use Rattle.checkpoint.proofs.Checkpoint.{layout-length, layout-stored}
 use Rattle.checkpoint.proofs.write_checkpoint.Statement.{statement}
 use Rattle.checkpoint.proofs.write_checkpoint.Tie as tie
-
-write-number-requires : tie.Need-write-number-requires
-write-number-requires c κs =
-    let n = position-length _ (c .before .before .before .before .pre .1) in simp length-set (omega arith)
 
 put-words-requires : tie.Need-put-words-requires
 put-words-requires c κs =
     let start = c .before .before .before .before .before .before .before .before in
-    let n = position-length _ (start .pre .1) in
     let k = c .before .before .before .write-number .kept .1 .0 ∙ length-set (now (start .args .lent)) 0 _ in
     (omega arith, omega (arith, sizes (start .args .cipher)))
-
-add-result : tie.Need-add-result
-add-result c =
-    let start = c .before .before .before .before .before .before .before .before .before .before .before in
-    let n = position-length _ (start .pre .1) in
-    let z = sizes (start .args .cipher) in
-    search needs
 
 same-length : tie.Need-same-length
 same-length c =
@@ -37,11 +25,10 @@ returns c =
     let start = c .before .before .before .before .before .before .before .before .before .before .before in
     let a = start .args in
     let n = layout-length (a .cipher) (a .position) (now (a .area)) (start .pre .0) in
-    let r = layout-room (a .cipher) (a .position) (now (a .area)) (start .pre .0) (start .pre .1) in
     let e = layout-stored (a .cipher) (a .position) (now (a .area)) (now (a .lent)) (omega arith) in
-    (omega arith, cc)
+    cc
 
 pub write-checkpoint-spec : {M : Type 1} → statement M
 write-checkpoint-spec =
-    let a₁ = tie.spec (λ c κs. search needs) (λ c. search needs) write-number-requires put-words-requires in
-    tie.close (a₁ (λ c. search needs) add-result same-length returns)
+    let a₁ = tie.spec (λ c κs. search needs) (λ c. search needs) (λ c κs. simp length-set (omega arith)) put-words-requires in
+    tie.close (a₁ same-length returns)

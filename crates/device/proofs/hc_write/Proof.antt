@@ -6,8 +6,8 @@ use Rattle.engine.proofs.Head as T
 use Rattle.engine.proofs.Head.Laws as T′
 use Rattle.engine.proofs.answers.WriteDone as S
 use Rattle.engine.proofs.answers.WriteDone.Laws as S′
-use Rattle.engine.proofs.answers.WriteAnswer as Answer
-use Rattle.engine.proofs.answers.WriteAnswer.Laws as Answer′
+use Rattle.engine.proofs.answers.LengthAnswer as Answer
+use Rattle.engine.proofs.answers.LengthAnswer.Laws as Answer′
 use Rattle.engine.proofs.Head.write as called
 use Rattle.engine.proofs.Head.write.Symbol.{name as #engine·write}
 use Rattle.engine.proofs.Head.write.Met as called-thm

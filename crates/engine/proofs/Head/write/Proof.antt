@@ -13,24 +13,22 @@ returns c =
 returns-2 : tie.Need-returns-2
 returns-2 c =
     let tested = c .before .before .before in
-    let e = c .before .before .room .ensures .0 in
+    let e = c .before .before .length-of .ensures in
     rw (c .not-written2 .ensures) (write-small _ _ _ _ (is-accepted _ _ _ (tested .before .ready .ensures .0) (tested .if1 .left)) (omega arith))
 
 write-checkpoint-requires : tie.Need-write-checkpoint-requires
 write-checkpoint-requires c κs =
     let tested = c .before .before .before in
     let checked = tested .before .ready .ensures .1 in
-    let l = checked .within (tested .if1 .left) in
-    let e = c .before .before .room .ensures .0 in
-    (checked .area-is (tested .if1 .left), omega arith, omega arith)
+    let e = c .before .before .length-of .ensures in
+    (checked .area-is (tested .if1 .left), omega arith)
 
 returns-3 : tie.Need-returns-3
 returns-3 c =
-    let written = c .before .before .write-checkpoint .ensures in
     let roomy = c .before .before .before .before in
     let tested = roomy .before .before in
-    let e = roomy .before .room .ensures .0 in
-    write-done _ _ _ _ (is-accepted _ _ _ (tested .before .ready .ensures .0) (tested .if1 .left)) _ _ (omega arith) (written .0) (written .1)
+    let e = roomy .before .length-of .ensures in
+    write-done _ _ _ _ (is-accepted _ _ _ (tested .before .ready .ensures .0) (tested .if1 .left)) _ _ e (roomy .if2 .left) (c .before .before .write-checkpoint .ensures)
 
 pub write-spec : {M : Type 1} → statement M
 write-spec =
