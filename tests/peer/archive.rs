@@ -39,6 +39,7 @@ extern "C" {
     ) -> u8;
     pub fn hc_cipher(head: *mut HcHead, area: *mut u32, area_words: usize, bytes: *mut u8, byte_count: usize) -> u8;
     pub fn hc_move(head: *mut HcHead, area: *mut u32, area_words: usize, distance: i64) -> u8;
+    pub fn hc_checkpoint_length(code: u8, position: u64) -> HcLength;
     pub fn hc_write(head: *mut HcHead, area: *const u32, area_words: usize, lent: *mut u8, lent_bytes: usize) -> HcLength;
     pub fn hc_recover(
         head: *mut HcHead,

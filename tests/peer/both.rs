@@ -213,6 +213,18 @@ impl<'t> Both<'t> {
         Ok(result)
     }
 
+    /// Checkpoint length, which takes neither head nor area; both are compared all the same.
+    pub fn checkpoint_length(&mut self, code: u8, position: u64) -> Agreed<usize> {
+        let mut comparison = self.begin(format!("checkpoint length, code {code}, position {position}"));
+        let returned = unsafe { archive::hc_checkpoint_length(code, position) };
+        let result = calls::checkpoint_length(code, position);
+        comparison.equal("answer", plain(returned.refusal), result.map(|_| ()));
+        comparison.equal("returned length", returned.length, result.unwrap_or(0));
+        self.end(comparison)?;
+        self.tally.call("checkpoint length", &answer(&result), Cipher::of_code(code));
+        Ok(result)
+    }
+
     /// Write; what it returns is the lent bytes up to the returned length.
     pub fn write(&mut self, words: usize, lent_before: &[u8]) -> Agreed<Vec<u8>> {
         let mut comparison = self.begin(format!("write, {} lent, area {words} words", short(lent_before)));
@@ -227,7 +239,18 @@ impl<'t> Both<'t> {
         comparison.equal_lists("lent bytes", lent.content(), &peer_lent);
         comparison.guards("lent bytes", &lent);
         self.end(comparison)?;
-        self.tally.call("write", &answer(&result), Cipher::of_code(self.head.code));
+        let cipher = Cipher::of_code(self.head.code);
+        self.tally.call("write", &answer(&result), cipher);
+        if let Some(cipher) = cipher {
+            let groups = calls::groups_of(self.head.position).len();
+            let length = calls::checkpoint_length(self.head.code, self.head.position);
+            if result == Ok(lent_before.len()) {
+                self.tally.special(&format!("write, groups {groups}, just enough lent"), cipher);
+            }
+            if result == Err(8) && length == Ok(lent_before.len() + 1) {
+                self.tally.special(&format!("write, groups {groups}, one byte too few lent"), cipher);
+            }
+        }
         Ok(result.map(|length| peer_lent[..length].to_vec()))
     }
 

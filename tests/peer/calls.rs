@@ -1,4 +1,5 @@
-//! The seven calls as document 01 states them: the refusals in their order, then what an accepted call does.
+//! The eight calls: the refusals in their order, then what an accepted call does. Document 01 states seven of them, request (g)
+//! of document 02 changes write, and the C header states the eighth, checkpoint length.
 
 use crate::ciphers::{self, Cipher};
 
@@ -21,14 +22,6 @@ pub fn steps_at(position: u64) -> u64 {
         position / 4
     } else {
         position / 4 + 1
-    }
-}
-
-/// The bytes that a write asks for.
-pub fn room(cipher: Cipher) -> usize {
-    match cipher {
-        Cipher::Hc128 => 4101,
-        Cipher::Hc256 => 8197,
     }
 }
 
@@ -136,15 +129,27 @@ pub fn checkpoint(code: u8, position: u64, tables: &[u32]) -> Vec<u8> {
     string
 }
 
+/// The length of a checkpoint: a byte for the code, one for each group of the position, and four for each word of the area.
+fn length_at(cipher: Cipher, position: u64) -> usize {
+    1 + groups_of(position).len() + 4 * cipher.area_words()
+}
+
+/// Checkpoint length.
+pub fn checkpoint_length(code: u8, position: u64) -> Result<usize, u8> {
+    let cipher = code_is_good(code)?;
+    position_is_good(position)?;
+    Ok(length_at(cipher, position))
+}
+
 /// Write.
 pub fn write(head: &Head, area: &[u32], lent: &mut [u8]) -> Result<usize, u8> {
     let cipher = engine_is_good(head, area)?;
-    if lent.len() < room(cipher) {
+    let length = length_at(cipher, head.position);
+    if lent.len() < length {
         return Err(8);
     }
-    let string = checkpoint(head.code, head.position, area);
-    lent[..string.len()].copy_from_slice(&string);
-    Ok(string.len())
+    lent[..length].copy_from_slice(&checkpoint(head.code, head.position, area));
+    Ok(length)
 }
 
 /// The key and IV whose tables these are at this position, shown by set-up and all steps again, or refusal 12.

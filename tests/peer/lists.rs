@@ -18,6 +18,9 @@ const FAR_LISTS: u64 = 200;
 /// How many far calls such a list has.
 const FAR_CALLS: u64 = 4;
 
+/// The positions on both sides of each change of a checkpoint's length, the first one, and those on both sides of the limit.
+const LENGTH_EDGES: [u64; 9] = [0, 127, 128, 16_383, 16_384, 2_097_151, 2_097_152, LIMIT, LIMIT + 1];
+
 struct List<'t> {
     random: Random,
     both: Both<'t>,
@@ -57,7 +60,8 @@ fn first_head(random: &mut Random) -> Head {
     let code = random.pick(&[1, 2]);
     match random.below(16) {
         0..=7 => FRESH,
-        8..=9 => Head { code, position: random.below(20_000) },
+        8 => Head { code, position: random.below(20_000) },
+        9 => Head { code, position: edge_position(random) },
         10..=12 => Head { code, position: LIMIT - random.below(9_000) },
         13 => Head { code, position: LIMIT - random.below(5) },
         14 => Head { code, position: random.pick(&[LIMIT + 1, LIMIT + 2, 2 * LIMIT, 1 << 32, 1 << 63, u64::MAX - 3, u64::MAX]) },
@@ -80,6 +84,16 @@ fn small_position(random: &mut Random) -> u64 {
         0 => random.below(20),
         1 => random.between(1, 9) * 2048 + random.below(14) - 7,
         _ => random.below(30_000),
+    }
+}
+
+/// A position at or around one of the edges.
+fn edge_position(random: &mut Random) -> u64 {
+    let edge = random.pick(&LENGTH_EDGES);
+    if random.once_in(2) {
+        edge
+    } else {
+        (edge + random.below(9)).saturating_sub(4)
     }
 }
 
@@ -142,7 +156,7 @@ impl List<'_> {
     }
 
     fn any_call(&mut self) -> Result<(), String> {
-        match self.random.below(100) {
+        match self.random.below(110) {
             0..=9 => self.set_up(),
             10..=34 => {
                 let length = self.cipher_length();
@@ -152,7 +166,8 @@ impl List<'_> {
             57..=66 => self.write(),
             67..=74 => self.recover(),
             75..=94 => self.load(),
-            _ => self.both.spent().map(|_| ()),
+            95..=99 => self.both.spent().map(|_| ()),
+            _ => self.checkpoint_length(),
         }
     }
 
@@ -219,12 +234,35 @@ impl List<'_> {
         self.both.move_by(words, distance).map(|_| ())
     }
 
+    fn checkpoint_length(&mut self) -> Result<(), String> {
+        let head = self.both.head;
+        if self.random.once_in(4) {
+            return self.both.checkpoint_length(head.code, head.position).map(|_| ());
+        }
+        let any = self.random.next() as u8;
+        let code = if self.random.once_in(8) { self.random.pick(&[0, 3, 255, any]) } else { self.random.pick(&[1, 2]) };
+        let position = match self.random.below(8) {
+            0..=3 => edge_position(&mut self.random),
+            4..=5 => self.random.below(LIMIT + 1),
+            6 => self.random.pick(&[2 * LIMIT, 1 << 28, 1 << 32, (1 << 32) + 127, 1 << 63, u64::MAX - 3, u64::MAX]),
+            _ => self.random.next() >> self.random.below(64),
+        };
+        self.both.checkpoint_length(code, position).map(|_| ())
+    }
+
     fn write(&mut self) -> Result<(), String> {
-        let room = Cipher::of_code(self.both.head.code).map_or(4101, calls::room);
-        let length = match self.random.below(8) {
-            0..=3 => room,
-            4..=5 => room + self.random.below(100) as usize,
-            6 => self.random.pick(&[0, 1, 4100, 4101, 8196, 8197, room - 1, room - 2, room - 3, room - 4]),
+        let head = self.both.head;
+        let longest = if head.code == 2 { 8197 } else { 4101 };
+        let exact = calls::checkpoint_length(head.code, head.position).unwrap_or(longest);
+        let length = match self.random.below(20) {
+            0..=5 => exact,
+            6..=8 => exact - 1,
+            9 => exact - self.random.between(2, 4) as usize,
+            10..=11 => longest,
+            12..=13 => longest - 1,
+            14..=16 => exact + self.random.between(1, 100) as usize,
+            17 => self.random.pick(&[0, 1]),
+            18 => self.random.pick(&[4097, 4098, 4100, 4101, 8193, 8194, 8196, 8197]),
             _ => self.random.below(10_000) as usize,
         };
         let lent = self.random.bytes(length);

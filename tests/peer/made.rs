@@ -1,4 +1,4 @@
-//! Cases made by hand, with the answer that document 01 gives for each.
+//! Cases made by hand, with the answer that document 01, request (g) of document 02 or the C header gives for each.
 
 use crate::both::{Agreed, Both};
 use crate::calls::{self, Head, FRESH, LIMIT};
@@ -33,6 +33,18 @@ const NUMBERS: [(u64, &[u8]); 11] = [
     (2_097_152, &[0x80, 0x80, 0x80, 0x01]),
     (67_108_863, &[0xFF, 0xFF, 0xFF, 0x1F]),
     (67_108_864, &[0x80, 0x80, 0x80, 0x20]),
+];
+
+/// Positions on both sides of each change of a checkpoint's length and at the limit, with the lengths of HC-128 and HC-256.
+const LENGTHS: [(u64, usize, usize); 8] = [
+    (0, 4098, 8194),
+    (127, 4098, 8194),
+    (128, 4099, 8195),
+    (16_383, 4099, 8195),
+    (16_384, 4100, 8196),
+    (2_097_151, 4100, 8196),
+    (2_097_152, 4101, 8197),
+    (67_108_864, 4101, 8197),
 ];
 
 /// The first words that a key and an IV give, with the key and IV that load returns for them.
@@ -152,7 +164,7 @@ fn examples(random: &mut Random, cipher: Cipher, tally: &mut Tally) -> Result<()
         let tables = random.words(words);
         let string = [&[code], number, &ciphers::bytes_of_words(&tables)].concat();
         let mut both = Both::new(Head { code, position }, tables, tally);
-        expect(&format!("write at {position}"), both.write(words, &vec![9; calls::room(cipher)]), Ok(string))?;
+        expect(&format!("write at {position}"), both.write(words, &vec![9; string.len()]), Ok(string))?;
     }
 
     let (first, returned) = random_first_words(random, cipher);
@@ -194,13 +206,69 @@ fn examples(random: &mut Random, cipher: Cipher, tally: &mut Tally) -> Result<()
     Ok(())
 }
 
+/// Writes of one key and IV into just enough bytes and into too few, at positions of every length up to the limit.
+fn lengths(random: &mut Random, cipher: Cipher, tally: &mut Tally) -> Result<(), String> {
+    let words = cipher.area_words();
+    let code = cipher.code();
+    let (key, iv) = (random.bytes(cipher.key_bytes()), random.bytes(cipher.key_bytes()));
+    let mut both = Both::new(FRESH, random.words(words), tally);
+    expect("set up", both.set_up(words, code, &key, &iv), Ok(()))?;
+    for (position, length_128, length_256) in LENGTHS {
+        let length = match cipher {
+            Cipher::Hc128 => length_128,
+            Cipher::Hc256 => length_256,
+        };
+        let distance = position - both.head.position;
+        expect(&format!("move to {position}"), both.move_by(words, distance as i64), Ok(()))?;
+        let string = calls::checkpoint(code, position, &both.area);
+        if string.len() != length {
+            return Err(format!("the peer's checkpoint at {position} has {} bytes, expected {length}", string.len()));
+        }
+        let case = |what: &str| format!("{what} at {position}");
+        expect(&case("checkpoint length"), both.checkpoint_length(code, position), Ok(length))?;
+        expect(&case("write into nothing"), both.write(words, &[]), Err(8))?;
+        for missing in 1..=4 {
+            expect(&case("write into too few bytes"), both.write(words, &random.bytes(length - missing)), Err(8))?;
+        }
+        for more in [0, 1, 100] {
+            expect(&case("write into enough bytes"), both.write(words, &random.bytes(length + more)), Ok(string.clone()))?;
+        }
+        expect(&case("spent"), both.spent(), Ok(position))?;
+    }
+    for over in [LIMIT + 1, 1 << 28, 1 << 32, (1 << 32) + 127, u64::MAX] {
+        expect(&format!("checkpoint length at {over}"), both.checkpoint_length(code, over), Err(5))?;
+    }
+    Ok(())
+}
+
+/// The example of request (g), and which refusal comes first where several conditions hold.
+fn length_examples(random: &mut Random, tally: &mut Tally) -> Result<(), String> {
+    let tables = random.words(1024);
+    let string = [&[1, 0], &ciphers::bytes_of_words(&tables)[..]].concat();
+    let mut at_start = Both::new(Head { code: 1, position: 0 }, tables, tally);
+    expect("HC-128 at 0 into 4,097 bytes", at_start.write(1024, &random.bytes(4097)), Err(8))?;
+    expect("HC-128 at 0 into 4,098 bytes", at_start.write(1024, &random.bytes(4098)), Ok(string))?;
+    expect("write into nothing with a short area", at_start.write(1023, &[]), Err(4))?;
+    for code in [0, 3, 255] {
+        let mut no_cipher = Both::new(Head { code, position: LIMIT + 1 }, random.words(1024), tally);
+        expect("checkpoint length of no cipher at 0", no_cipher.checkpoint_length(code, 0), Err(1))?;
+        expect("checkpoint length of no cipher over the limit", no_cipher.checkpoint_length(code, LIMIT + 1), Err(1))?;
+        expect("write of no cipher into nothing", no_cipher.write(1024, &[]), Err(1))?;
+    }
+    let mut over = Both::new(Head { code: 2, position: LIMIT + 1 }, random.words(2048), tally);
+    expect("write over the limit into nothing", over.write(2048, &[]), Err(5))?;
+    expect("write over the limit into enough bytes", over.write(2048, &random.bytes(8197)), Err(5))
+}
+
 /// All made cases; the result is the text of the first difference.
 pub fn run(seed: u64, tally: &mut Tally) -> Result<(), String> {
     let mut random = Random::new(seed, u64::MAX);
     for cipher in [Cipher::Hc128, Cipher::Hc256] {
         examples(&mut random, cipher, tally)?;
+        lengths(&mut random, cipher, tally)?;
         last_words_of_turns(&mut random, cipher, tally)?;
         changed_expansions(&mut random, cipher, tally)?;
     }
-    words_not_twice(&mut random, tally)
+    words_not_twice(&mut random, tally)?;
+    length_examples(&mut random, tally)
 }

@@ -1,4 +1,4 @@
-//! The count of calls by kind, cipher and answer, and the answers that document 01 says must occur.
+//! The count of calls by kind, cipher and answer, and the answers that must occur.
 
 use crate::ciphers::Cipher;
 use std::collections::BTreeMap;
@@ -6,11 +6,12 @@ use std::collections::BTreeMap;
 /// The columns of the count: the ciphers, and calls whose code names none.
 const COLUMNS: [&str; 3] = ["HC-128", "HC-256", "neither"];
 
-/// For each call the answers that document 01 gives it, and whether the code names a cipher where the answer occurs.
-const EXPECTED: [(&str, &[(&str, bool)]); 7] = [
+/// For each call the answers that it must give, and whether the code names a cipher where the answer occurs.
+const EXPECTED: [(&str, &[(&str, bool)]); 8] = [
     ("set up", &[("accepted", true), ("1", false), ("2", true), ("3", true), ("4", true)]),
     ("cipher", &[("accepted", true), ("1", false), ("4", true), ("5", true), ("6", true)]),
     ("move", &[("accepted", true), ("1", false), ("4", true), ("5", true), ("7", true), ("6", true)]),
+    ("checkpoint length", &[("accepted", true), ("1", false), ("5", true)]),
     ("write", &[("accepted", true), ("1", false), ("4", true), ("5", true), ("8", true)]),
     ("recover", &[("accepted", true), ("1", false), ("4", true), ("5", true), ("2", true), ("3", true), ("12", true)]),
     (
@@ -31,8 +32,8 @@ const EXPECTED: [(&str, &[(&str, bool)]); 7] = [
     ("spent", &[("accepted", true), ("1", false), ("5", true)]),
 ];
 
-/// Accepted calls of special interest that must occur for both ciphers.
-const SPECIAL: [&str; 10] = [
+/// Calls of special interest that must occur for both ciphers.
+const SPECIAL: [&str; 18] = [
     "cipher of no bytes",
     "cipher from inside a word",
     "cipher past the last word of a table",
@@ -42,6 +43,14 @@ const SPECIAL: [&str; 10] = [
     "move from inside a word to inside a word",
     "move to 0",
     "move to the limit",
+    "write, groups 1, just enough lent",
+    "write, groups 1, one byte too few lent",
+    "write, groups 2, just enough lent",
+    "write, groups 2, one byte too few lent",
+    "write, groups 3, just enough lent",
+    "write, groups 3, one byte too few lent",
+    "write, groups 4, just enough lent",
+    "write, groups 4, one byte too few lent",
     "load where the head had another cipher",
 ];
 
@@ -66,7 +75,7 @@ impl Tally {
         self.counts.entry((call.to_string(), answer.to_string())).or_default()[column(cipher)] += 1;
     }
 
-    /// Counts one accepted call of special interest.
+    /// Counts one call of special interest.
     pub fn special(&mut self, what: &str, cipher: Cipher) {
         self.counts.entry(("special".to_string(), what.to_string())).or_default()[column(Some(cipher))] += 1;
     }
@@ -75,13 +84,13 @@ impl Tally {
     pub fn print_and_check(&self) -> Vec<String> {
         let mut faults = Vec::new();
         let mut left = self.counts.clone();
-        println!("{:<8} {:<41} {:>8} {:>8} {:>8}", "call", "answer", COLUMNS[0], COLUMNS[1], COLUMNS[2]);
+        println!("{:<17} {:<41} {:>8} {:>8} {:>8}", "call", "answer", COLUMNS[0], COLUMNS[1], COLUMNS[2]);
         let special: Vec<(&str, bool)> = SPECIAL.iter().map(|what| (*what, true)).collect();
         let rows = EXPECTED.iter().copied().chain([("special", &special[..])]);
         for (call, answers) in rows {
             for (answer, has_cipher) in answers {
                 let counts = left.remove(&(call.to_string(), answer.to_string())).unwrap_or_default();
-                println!("{:<8} {:<41} {:>8} {:>8} {:>8}", call, answer, counts[0], counts[1], counts[2]);
+                println!("{:<17} {:<41} {:>8} {:>8} {:>8}", call, answer, counts[0], counts[1], counts[2]);
                 for k in 0..3 {
                     let expected = *has_cipher == (k < 2);
                     if expected && counts[k] == 0 {

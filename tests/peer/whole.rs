@@ -1,7 +1,7 @@
 //! One key and IV taken from 0 to the limit and back to 0 in pieces of odd sizes.
 
 use crate::both::Both;
-use crate::calls::{self, FRESH, LIMIT};
+use crate::calls::{FRESH, LIMIT};
 use crate::ciphers::{self, Cipher};
 use crate::random::Random;
 use crate::tally::Tally;
@@ -24,12 +24,20 @@ fn must(holds: bool, what: &str) -> Result<(), String> {
     }
 }
 
+/// The checkpoint that a write gives where just as many bytes are lent as it has.
+fn write_exactly(both: &mut Both, random: &mut Random, words: usize) -> Result<Vec<u8>, String> {
+    let head = both.head;
+    let length = both.checkpoint_length(head.code, head.position)?.map_err(|_| "checkpoint length refused")?;
+    let checkpoint = both.write(words, &random.bytes(length))?.map_err(|_| "write refused")?;
+    must(checkpoint.len() == length, "the checkpoint has the length that was asked for")?;
+    Ok(checkpoint)
+}
+
 /// The whole run of one cipher; the result is the number of checkpoints compared, or the text of the first difference.
 pub fn run(seed: u64, cipher: Cipher, tally: &mut Tally) -> Result<usize, String> {
     let mut random = Random::new(seed, u64::MAX - cipher.code() as u64);
     let words = cipher.area_words();
     let bytes = cipher.key_bytes();
-    let room = calls::room(cipher);
     let (key, iv) = (random.bytes(bytes), random.bytes(bytes));
     let key_and_iv = Ok((key.clone(), iv.clone()));
     let mut both = Both::new(FRESH, random.words(words), tally);
@@ -45,7 +53,7 @@ pub fn run(seed: u64, cipher: Cipher, tally: &mut Tally) -> Result<usize, String
         } else {
             both.move_by(words, size as i64)?.map_err(|_| "move refused")?;
         }
-        let checkpoint = both.write(words, &random.bytes(room))?.map_err(|_| "write refused")?;
+        let checkpoint = write_exactly(&mut both, &mut random, words)?;
         compared += 1;
         passed.push((both.head.position, checkpoint));
     }
@@ -63,12 +71,12 @@ pub fn run(seed: u64, cipher: Cipher, tally: &mut Tally) -> Result<usize, String
         if left > 2 {
             let part = random.below(left / 2) * 2 + 1;
             both.move_by(words, -(part as i64))?.map_err(|_| "move refused")?;
-            both.write(words, &random.bytes(room))?.map_err(|_| "write refused")?;
+            write_exactly(&mut both, &mut random, words)?;
             compared += 1;
         }
         let left = both.head.position - position;
         both.move_by(words, -(left as i64))?.map_err(|_| "move refused")?;
-        let again = both.write(words, &random.bytes(room))?.map_err(|_| "write refused")?;
+        let again = write_exactly(&mut both, &mut random, words)?;
         compared += 1;
         must(again == *checkpoint, "the checkpoint on the way back is that of the way there")?;
     }

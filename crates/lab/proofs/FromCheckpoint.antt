@@ -25,7 +25,7 @@ use Rattle.keystream.proofs.Positions.{moved-on}
 use Rattle.setup.specs.SetUp as SetUp
 use Rattle.setup.specs.SetUp.{found}
 use Rattle.setup.proofs.Inverse.{set-up-area}
-use Rattle.checkpoint.specs.Checkpoint.{lengthOf}
+use Rattle.checkpoint.specs.Checkpoint.{layout, lengthOf}
 use Rattle.checkpoint.proofs.Checkpoint.{layout-length}
 use Rattle.engine.specs.declared.Head.{Head}
 use Rattle.conditions.specs.Result.{Result, refused, accepted, Outcome}

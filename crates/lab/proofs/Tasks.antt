@@ -26,6 +26,7 @@ use Rattle.engine.specs.Calls as Calls
 use Rattle.engine.specs.Answers as Answers
 use Rattle.engine.proofs.Calls.{move-refused, move-unreached}
 use Rattle.theorems.specs.Demand3.{given}
+use Rattle.theorems.proofs.Conditions.{ready-shows}
 use Rattle.theorems.proofs.Writes.{write-shows}
 use Rattle.lab.specs.Tasks as Tasks
 use Rattle.lab.specs.Tasks.{loadFresh, moveTo, loadAndMove, openCheckpoint, setUpAt, thenWrite, recoverFrom}
