@@ -1,5 +1,6 @@
-// The examples of document 01 that are run, its edges, and every refusal of the seven calls: a line each, `ok` or `wrong`.
+// The examples of documents 01 and 02 that are run, their edges, and every refusal of every call: a line each, `ok` or `wrong`.
 mod compare;
+mod lengths;
 mod line;
 mod refusals;
 mod story;
@@ -9,6 +10,9 @@ fn main() {
     refusals::other_lengths();
     refusals::of_cipher(1, 16, 1024, 4096);
     refusals::of_cipher(2, 32, 2048, 8192);
+    lengths::unknown_codes();
+    lengths::of_cipher(1, 4096);
+    lengths::of_cipher(2, 8192);
     story::of_cipher(1);
     story::of_cipher(2);
 }

@@ -42,15 +42,14 @@ fn refuses_move(code: u8, position: u64, area: &mut [u32], distance: i64, refusa
     has_words(area, 7, STRIDE) & gave(done, refusal, code, position)
 }
 
-// Whether write gets a refusal number and no length, and head, area and bytes stay.
-fn refuses_write(code: u8, position: u64, area: &mut [u32], lent: &mut [u8], refusal: u8) -> bool {
-    fill_words(area, 7, STRIDE);
+// Whether write gets a refusal number and no length, and head and bytes stay.
+pub fn refuses_write(code: u8, position: u64, area: &[u32], lent: &mut [u8], refusal: u8) -> bool {
     fill_bytes(lent, 5, 3);
     let done = Head::at(code, position).write(area, lent);
     let head = done.head;
     let answer = done.answer;
-    let stay = has_words(area, 7, STRIDE) & has_bytes(lent, 5, 3);
-    stay & (answer.refusal == refusal) & (answer.length == 0) & is_head(head, code, position)
+    let none = (answer.refusal == refusal) & (answer.length == 0);
+    none & has_bytes(lent, 5, 3) & is_head(head, code, position)
 }
 
 // Whether recover gets a refusal number, and head and buffers stay.
@@ -143,15 +142,9 @@ fn write_case(code: u8, position: u64, area: usize, bytes: usize, refusal: u8)
 {
     line::call(b"write", code, position, area);
     line::size(b" bytes ", bytes);
-    let mut words = [0u32; 2049];
+    let words = [7u32; 2049];
     let mut lent = [0u8; 8197];
-    let ok = refuses_write(
-        code,
-        position,
-        &mut words[..area],
-        &mut lent[..bytes],
-        refusal,
-    );
+    let ok = refuses_write(code, position, &words[..area], &mut lent[..bytes], refusal);
     line::gets(refusal, ok);
 }
 
@@ -291,16 +284,17 @@ fn move_cases(code: u8, area: usize)
     move_case(code, 67_108_864, area, 0, 0);
 }
 
-fn write_cases(code: u8, area: usize, room: usize)
-    requires { ⌜ (1 ≤ area) × (area ≤ 2048) × (1 ≤ room) × (room ≤ 8197) ⌝ }
+// A checkpoint of the cipher has this number of bytes for its words.
+fn write_cases(code: u8, area: usize, tables: usize)
+    requires { ⌜ (1 ≤ area) × (area ≤ 2048) × (1 ≤ tables) × (tables ≤ 8192) ⌝ }
 {
     write_case(code, 67_108_865, area - 1, 10, 4);
-    write_case(code, 67_108_865, area + 1, room, 4);
+    write_case(code, 67_108_865, area + 1, tables + 5, 4);
     write_case(code, 67_108_865, area, 10, 5);
-    write_case(code, u64::MAX, area, room, 5);
+    write_case(code, u64::MAX, area, tables + 5, 5);
     write_case(code, 0, area, 0, 8);
-    write_case(code, 0, area, room - 1, 8);
-    write_case(code, 67_108_864, area, room - 1, 8);
+    write_case(code, 0, area, tables + 1, 8);
+    write_case(code, 67_108_864, area, tables + 4, 8);
 }
 
 fn recover_cases(code: u8, area: usize, key: usize)
@@ -354,7 +348,7 @@ pub fn of_cipher(code: u8, key: usize, area: usize, tables: usize)
     set_up_cases(code, key, area);
     cipher_cases(code, area);
     move_cases(code, area);
-    write_cases(code, area, tables + 5);
+    write_cases(code, area, tables);
     recover_cases(code, area, key);
     load_cases(code, area, tables);
     load_position_cases(code, area, tables);

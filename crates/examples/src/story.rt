@@ -14,6 +14,7 @@ use crate::line::report;
 use crate::refusals::STRIDE;
 use crate::refusals::refuses_load;
 use crate::refusals::refuses_recover;
+use crate::refusals::refuses_write;
 use check::same;
 use engine::Head;
 
@@ -31,11 +32,11 @@ fn area_words(code: u8) -> usize
     if code == 1 { 1024 } else { 2048 }
 }
 
-// The bytes that write asks for.
-fn room(code: u8) -> usize
-    ensures { λ r. ⌜ r ≤ 8197 ⌝ }
+// The bytes of a checkpoint with these bytes of a position.
+fn checkpoint_bytes(code: u8, position: &[u8]) -> usize
+    ensures { λ r. ⌜ (1 ≤ r) × (r ≤ 8197) ⌝ }
 {
-    if code == 1 { 4101 } else { 8197 }
+    1 + least(position.len(), 4) + 4 * area_words(code)
 }
 
 // Whether set up by a head is accepted with the story's key and IV, in which no two bytes are alike, over other words.
@@ -198,11 +199,36 @@ fn writes_and_loads(
     n
 }
 
-// A checkpoint written with just the room that write asks for, and loaded.
+// Write gets 8 where this many bytes are lent, one too few.
+fn one_too_few(code: u8, at: u64, bytes: usize, area: &[u32])
+    requires { ⌜ bytes ≤ 8196 ⌝ }
+{
+    let mut lent = [0u8; 8196];
+    let ok = refuses_write(code, at, area, &mut lent[..bytes], 8);
+    report(code, at, b"write 8 one byte too few", ok);
+}
+
+// A checkpoint written where just as many bytes are lent as it has, and not where one fewer is, and loaded.
 fn checkpoint(code: u8, at: u64, position: &[u8], area: &[u32], other: &mut [u32]) {
     let mut lent = [0u8; 8197];
-    let n = room(code);
+    let n = checkpoint_bytes(code, position);
+    one_too_few(code, at, n - 1, area);
     writes_and_loads(code, at, position, area, other, &mut lent[..n]);
+}
+
+// Moves from one position to another, and to its checkpoint.
+fn checkpoint_on(
+    code: u8,
+    from: u64,
+    distance: i64,
+    to: u64,
+    position: &[u8],
+    area: &mut [u32],
+    other: &mut [u32],
+) {
+    let ok = moves(code, from, distance, to, area);
+    report(code, to, b"move", ok);
+    checkpoint(code, to, position, area, other);
 }
 
 // Load of the checkpoint at 8195 gets 12 where this byte is changed; the byte is then put back.
@@ -305,11 +331,65 @@ fn back(code: u8, area: &mut [u32], other: &mut [u32]) {
     checkpoint(code, 0, b"\x00", area, other);
 }
 
+// From 0 to 128, where a position has two groups.
+fn two_groups(code: u8, area: &mut [u32], other: &mut [u32]) {
+    checkpoint_on(code, 0, 127, 127, b"\x7f", area, other);
+    checkpoint_on(code, 127, 1, 128, b"\x80\x01", area, other);
+}
+
+// From 128 to 16,384, where it has three.
+fn three_groups(code: u8, area: &mut [u32], other: &mut [u32]) {
+    checkpoint_on(code, 128, 16_255, 16_383, b"\xff\x7f", area, other);
+    checkpoint_on(code, 16_383, 1, 16_384, b"\x80\x80\x01", area, other);
+}
+
+// From 16,384 to 2,097,152, where it has four.
+fn four_groups(code: u8, area: &mut [u32], other: &mut [u32]) {
+    checkpoint_on(
+        code,
+        16_384,
+        2_080_767,
+        2_097_151,
+        b"\xff\xff\x7f",
+        area,
+        other,
+    );
+    checkpoint_on(
+        code,
+        2_097_151,
+        1,
+        2_097_152,
+        b"\x80\x80\x80\x01",
+        area,
+        other,
+    );
+}
+
+// From 0 past each position where the groups grow in number, and back to 0.
+fn groups(code: u8, area: &mut [u32], other: &mut [u32]) {
+    two_groups(code, area, other);
+    three_groups(code, area, other);
+    four_groups(code, area, other);
+    goes_back(code, 2_097_152, -2_097_152, area, other);
+}
+
+// To 3, then past each position where the groups grow in number, and each time back to 0.
+fn early(code: u8, area: &mut [u32], other: &mut [u32]) {
+    first_steps(code, area, other);
+    groups(code, area, other);
+}
+
 // From 8195 to the stream limit, and all the way back.
 fn limit(code: u8, area: &mut [u32], other: &mut [u32]) {
-    let ok = moves(code, 8195, 67_100_665, 67_108_860, area);
-    report(code, 67_108_860, b"move", ok);
-    checkpoint(code, 67_108_860, b"\xfc\xff\xff\x1f", area, other);
+    checkpoint_on(
+        code,
+        8195,
+        67_100_665,
+        67_108_860,
+        b"\xfc\xff\xff\x1f",
+        area,
+        other,
+    );
     last_bytes(code, area, other);
     checkpoint(code, 67_108_864, b"\x80\x80\x80\x20", area, other);
     goes_back(code, 67_108_864, -67_108_864, area, other);
@@ -318,7 +398,7 @@ fn limit(code: u8, area: &mut [u32], other: &mut [u32]) {
 // The whole story.
 fn scenes(code: u8, area: &mut [u32], other: &mut [u32]) {
     let mut text = [0u8; 8195];
-    first_steps(code, area, other);
+    early(code, area, other);
     forward(code, area, other, &mut text);
     back(code, area, other);
     comes_again(code, 8195, 8195, area, other, &mut text);

@@ -164,7 +164,9 @@ fn do_job(job: Job, key: &[u8], iv: &[u8], area: &mut [u32]) {
     let writes = job.writes;
     if writes {
         let mut lent = [0u8; 8197];
-        write_checkpoint(job, key, iv, area, &mut lent);
+        let c = job.cipher;
+        let n = sizes::checkpoint_part(c, job.position, &lent);
+        write_checkpoint(job, key, iv, area, &mut lent[..n]);
     } else {
         cipher_log(job, key, iv, area);
     }
@@ -318,12 +320,14 @@ fn save_at(string: &[u8], area: &mut [u32], position: u64, lent: &mut [u8]) {
     save(4, &lent[..n]);
 }
 
-// Makes the area and the room for a checkpoint at another position.
+// Makes the area, and as many bytes as the checkpoint at another position has.
 fn at_string(string: &[u8], position: u64) {
     let mut area = [0u32; 2048];
     let mut lent = [0u8; 8197];
-    let n = sizes::area_part(lab::cipher_of(string), &area);
-    save_at(string, &mut area[..n], position, &mut lent);
+    let c = lab::cipher_of(string);
+    let n = sizes::area_part(c, &area);
+    let m = sizes::checkpoint_part(c, position, &lent);
+    save_at(string, &mut area[..n], position, &mut lent[..m]);
 }
 
 // at CHECKPOINT POSITION NEWCHECKPOINT

@@ -12,6 +12,15 @@ pub fn area_part(cipher: Cipher, area: &[u32]) -> usize
     cipher::area_words(cipher)
 }
 
+// The bytes of a checkpoint at a position, none where there is no such checkpoint.
+pub fn checkpoint_part(cipher: Cipher, position: u64, lent: &[u8]) -> usize
+    requires { ⌜ 8197 ≤ length (now lent) ⌝ }
+    ensures { λ r. ⌜ Counts r (now (lent .entry)) ⌝ }
+{
+    let answer = engine::checkpoint_length(cipher::code_of(cipher), position);
+    answer.length
+}
+
 // The bytes of a key, which are those of an IV too.
 pub fn key_part(cipher: Cipher, key: &[u8]) -> usize
     requires { ⌜ 32 ≤ length (now key) ⌝ }

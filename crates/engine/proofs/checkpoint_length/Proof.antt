@@ -23,8 +23,7 @@ returns-2 : tie.Need-returns-2
 returns-2 c =
     let checked = c .before .before .head-check in
     let l = checked .ensures .1 .within (c .before .if1 .left) in
-    let e = c .length-of .ensures in
-    (
+    let e = c .length-of .ensures in (
       length-told _ _ _ (is-accepted _ _ _ (checked .ensures .0) (c .before .if1 .left)) _ e,
       within-longest (checked .result .cipher) _ l _ e,
     )

@@ -7,5 +7,5 @@ use Rattle.examples.proofs.story.checkpoint.Tie as tie
 
 pub checkpoint-spec : {M : Type 1} → statement M
 checkpoint-spec =
-    let a₁ = tie.spec (λ c κs. tt) (λ c. search needs) (λ c. simp length-take (omega arith)) (λ c κs. tt) in
-    tie.close (a₁ (λ c. search needs) (λ c. tt))
+    let a₁ = tie.spec (λ c κs. tt) (λ c. search needs) (λ c κs. search needs) (λ c. search needs) (λ c. simp length-take (omega arith)) in
+    tie.close (a₁ (λ c κs. tt) (λ c. search needs) (λ c. tt))

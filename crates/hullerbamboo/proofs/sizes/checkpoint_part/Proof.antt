@@ -1,0 +1,17 @@
+-- `sizes::checkpoint_part` meets its contract: the part is no longer than the buffer. Assumes nothing.
+use mathlib.Core.Path.{sym}
+use Prim.Native.Nat.{_≤_}
+use native.Mathlib.Omega.{arith}
+use borrow.Author.Needs.{needs}
+use lib.ListN.{length}
+use lib.Seq.{length-take-le}
+use Rattle.hullerbamboo.proofs.sizes.checkpoint_part.Statement.{statement}
+use Rattle.hullerbamboo.proofs.sizes.checkpoint_part.Tie as tie
+
+returns : tie.Need-returns
+returns c =
+    let l : c .checkpoint-length .result .length ≤ length (c .before .before .before .args .lent .now) = omega (arith, c .checkpoint-length .ensures .1) in
+    (l, sym (length-take-le _ _ l))
+
+pub checkpoint-part-spec : {M : Type 1} → statement M
+checkpoint-part-spec = tie.close (tie.spec (λ c κs. search needs) (λ c κs. search needs) returns)
