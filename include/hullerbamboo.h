@@ -108,11 +108,11 @@ uint8_t hc_move(struct hc_head *head, uint32_t *area, size_t area_words, int64_t
 /* Checkpoint length: how many bytes the checkpoint of a cipher has at a position: 1, plus the bytes of the position as a number (1 below 128, 2 below
  * 16,384, 3 below 2,097,152, else 4), plus 4 times the words of the area. For a head's code and position it is what hc_write returns, and the fewest
  * bytes that it takes.
- * Refusals: 1, 5. Stack: 8 bytes. */
+ * Refusals: 1, 5. Stack: 0 bytes. */
 struct hc_length hc_checkpoint_length(uint8_t code, uint64_t position);
 
 /* Write: puts the checkpoint of head and area at the start of the lent bytes and returns its length; later bytes, area and head stay.
- * Refusals: 1, 4, 5, 8. Stack: 160 bytes. */
+ * Refusals: 1, 4, 5, 8. Stack: 208 bytes. */
 struct hc_length hc_write(struct hc_head *head, const uint32_t *area, size_t area_words, uint8_t *lent, size_t lent_bytes);
 
 /* Recover: fills the buffers with the key and the IV from which the tables came. Area and head stay. It takes every step back to set up.
@@ -125,7 +125,7 @@ uint8_t hc_recover(struct hc_head *head, const uint32_t *area, size_t area_words
 struct hc_words hc_load(struct hc_head *head, uint32_t *area, size_t area_words, const uint8_t *string, size_t string_bytes);
 
 /* Spent: how many keystream bytes have been used, which is the position. The head stays.
- * Refusals: 1, 5. Stack: 8 bytes. */
+ * Refusals: 1, 5. Stack: 0 bytes. */
 struct hc_count hc_spent(struct hc_head *head);
 
 #ifdef __cplusplus

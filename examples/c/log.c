@@ -7,7 +7,6 @@
 #define WORDS HC_128_AREA_WORDS
 
 static uint32_t area[WORDS], spare[WORDS];
-static uint8_t checkpoint[HC_128_CHECKPOINT_BYTES];
 
 static void check(const char *call, unsigned refusal)
 {
@@ -39,10 +38,18 @@ int main(void)
     check("cipher", hc_cipher(&head, area, WORDS, log + 4, 3));
     show("three ratios logged:", log, 7);
 
-    struct hc_length written = hc_write(&head, area, WORDS, checkpoint, sizeof checkpoint);
+    struct hc_length needed = hc_checkpoint_length(head.code, head.position);
+    check("checkpoint length", needed.refusal);
+    uint8_t *checkpoint = malloc(needed.length);
+    if (checkpoint == NULL)
+        return 1;
+    printf("a write with one byte fewer than the checkpoint's %zu is refused with %u\n", needed.length,
+           hc_write(&head, area, WORDS, checkpoint, needed.length - 1).refusal);
+    struct hc_length written = hc_write(&head, area, WORDS, checkpoint, needed.length);
     check("write", written.refusal);
     struct hc_words loaded = hc_load(&other, spare, WORDS, checkpoint, written.length);
     check("load", loaded.refusal);
+    free(checkpoint);
     printf("checkpoint of %zu bytes, loaded: position %llu\n", written.length, (unsigned long long)other.position);
 
     check("cipher", hc_cipher(&head, area, WORDS, log + 7, 3));

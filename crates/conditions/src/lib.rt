@@ -1,6 +1,6 @@
-// Conditions of the calls, in document 01's order: those of set up; 1, 4 and 5, which cipher, move, write and recover begin with; 1 and 5, those of
-// a head alone; the end of a move, 7 and 6; those of load up to 11. Each gives the refusal number of the first that fails, or what the call then works with. The other conditions are
-// tested in the calls.
+// Conditions of the calls, in document 01's order: those of set up; 1, 4 and 5, which cipher, move, write and recover begin with; 1 and 5, those of a
+// head alone; the end of a move, 7 and 6; those of load up to 11. Each gives the refusal number of the first that fails, or what the call then works
+// with. The other conditions are tested in the calls.
 ghost use mathlib.Core.Path.{_≡_};
 ghost use Prim.Native.Nat.{_≤_};
 ghost use Rattle.conditions.specs.Limit.{limit};
