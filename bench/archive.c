@@ -61,7 +61,7 @@ static size_t write_checkpoint(void *state, uint8_t *checkpoint, size_t times)
     struct state *s = state;
     struct hc_length written = { 0, 0 };
     for (size_t i = 0; i < times; i++)
-        written = hc_write(&s->head, s->area, s->area_words, checkpoint, CHECKPOINT_ROOM);
+        written = hc_write(&s->head, s->area, s->area_words, checkpoint, LONGEST_CHECKPOINT);
     expect_accepted(written.refusal);
     return written.length;
 }

@@ -9,7 +9,7 @@
 
 static uint8_t key[32], iv[32];
 static uint8_t expected[STREAM], found[STREAM];
-static uint8_t expected_checkpoint[CHECKPOINT_ROOM], found_checkpoint[CHECKPOINT_ROOM];
+static uint8_t expected_checkpoint[LONGEST_CHECKPOINT], found_checkpoint[LONGEST_CHECKPOINT];
 
 static void stop(const struct implementation *it, int code, const char *what)
 {

@@ -6,7 +6,7 @@
 #include <stdint.h>
 
 #define LIMIT 67108864
-#define CHECKPOINT_ROOM 8197
+#define LONGEST_CHECKPOINT 8197
 
 struct implementation {
     const char *title;

@@ -36,7 +36,7 @@ struct engine {
 static struct engine engines[2][MOST_COLUMNS];
 static uint8_t key[32] = { 1, 2, 3 }, iv[32] = { 4, 5, 6 };
 static uint8_t buffer[16777216];
-static uint8_t checkpoint[CHECKPOINT_ROOM];
+static uint8_t checkpoint[LONGEST_CHECKPOINT];
 
 /* The processor time of this process, which other work on the machine does not add to. */
 static double now(void)

@@ -42,7 +42,8 @@ extern "C" {
 #define HC_128_AREA_WORDS 1024
 #define HC_256_AREA_WORDS 2048
 
-/* The longest checkpoints, those from position 2,097,152 on. hc_checkpoint_length gives the length at any position. */
+/* The longest checkpoints, those from position 2,097,152 on: a buffer of this size is always enough. hc_checkpoint_length gives the length at any
+ * position. */
 #define HC_128_CHECKPOINT_BYTES 4101
 #define HC_256_CHECKPOINT_BYTES 8197
 
@@ -107,11 +108,12 @@ uint8_t hc_move(struct hc_head *head, uint32_t *area, size_t area_words, int64_t
 
 /* Checkpoint length: how many bytes the checkpoint of a cipher has at a position: 1, plus the bytes of the position as a number (1 below 128, 2 below
  * 16,384, 3 below 2,097,152, else 4), plus 4 times the words of the area. For a head's code and position it is what hc_write returns, and the fewest
- * bytes that it takes.
+ * bytes that it takes. It grows with the position: ask again after a cipher call or a move.
  * Refusals: 1, 5. Stack: 0 bytes. */
 struct hc_length hc_checkpoint_length(uint8_t code, uint64_t position);
 
-/* Write: puts the checkpoint of head and area at the start of the lent bytes and returns its length; later bytes, area and head stay.
+/* Write: puts the checkpoint of head and area at the start of the lent bytes and returns its length; later bytes, area and head stay. lent_bytes is at
+ * least hc_checkpoint_length(head->code, head->position).
  * Refusals: 1, 4, 5, 8. Stack: 208 bytes. */
 struct hc_length hc_write(struct hc_head *head, const uint32_t *area, size_t area_words, uint8_t *lent, size_t lent_bytes);
 

@@ -1,5 +1,5 @@
 -- Document 01, 'Checkpoint': 'one byte for the cipher code, the position as a number, then 2T words'.
-use mathlib.Core.List.{List, [], _∷_, _++_}
+use mathlib.Core.List.{List, _∷_, _++_}
 use Prim.Native.Nat.{ℕ, _+_, _*_}
 use lib.ListN.{length, drop}
 use Rattle.word.specs.Bytes.{bytes}

@@ -51,6 +51,7 @@ pub record Ready (r : Checked) (position size : ℕ) : Type 0 where
   pub area-is : r .refusal ≡ 0 → size ≡ areaLength (r .cipher)
   pub within : r .refusal ≡ 0 → position ≤ limit
 
+-- the same of the conditions of a head alone
 pub record HeadReady (r : Checked) (position : ℕ) : Type 0 where
   pub beside : (r .refusal ≡ 0 → ⊥) → r .cipher ≡ Hc128
   pub within : r .refusal ≡ 0 → position ≤ limit

@@ -1,6 +1,6 @@
--- Document 01, 'Calls, with their refusals in order': the conditions that engine and account share, and those of recover, as functions of code,
--- position, the area's size and the other arguments. The engine reads them with the head's code and position, the account of demand 3 with its own.
--- Write's 8 is in the engine's Calls.
+-- Document 01, 'Calls, with their refusals in order': the conditions that engine and account share, those of recover, and those of a head alone,
+-- which spent and checkpoint length have, as functions of code, position, the area's size and the other arguments. The engine reads them with the
+-- head's code and position, the account of demand 3 with its own. Write's 8 is in the engine's Calls.
 use mathlib.Core.List.{List, [], _∷_}
 use mathlib.Core.Option.{Option, none, some}
 use Prim.Native.Nat.{ℕ, _+_, _*_}

@@ -25,7 +25,7 @@ use Rattle.setup.proofs.Inverse.{undo-not-filled, undo-filled}
 use Rattle.checkpoint.specs.Checkpoint.{layout, lengthOf}
 use Rattle.recovery.specs.Recovery.{filledAt}
 use Rattle.engine.specs.declared.Head.{Head}
-use Rattle.conditions.specs.Result.{refused, accepted, outcome}
+use Rattle.conditions.specs.Result.{refused, accepted}
 use Rattle.conditions.specs.Limit.{limit}
 use Rattle.engine.specs.Head.{headAt}
 use Rattle.conditions.specs.Conditions.{setUpCheck, ready, headCheck, cipherCheck, endOf, moveCheck, undoAt, recoverCheck, loadFound, loadCheck}

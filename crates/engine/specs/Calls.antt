@@ -6,13 +6,12 @@ use lib.Dec.{leb}
 use lib.IntN.{ℤ}
 use lib.ListN.{length, replicate}
 use Rattle.word.specs.Bytes.{words}
-use Rattle.cipher.specs.Numbers.{byCode, codeOf}
+use Rattle.cipher.specs.Numbers.{codeOf}
 use Rattle.steps.specs.Steps.{moved}
 use Rattle.keystream.specs.Keystream.{ciphered}
 use Rattle.setup.specs.SetUp as SetUp
 use Rattle.checkpoint.specs.Checkpoint.{layout, lengthOf, putFirst}
-use Rattle.conditions.specs.Result.{Result, accepted, Outcome, outcome, _>>=_, _>>_, refuse_unless_, refuse_without_}
-use Rattle.conditions.specs.Limit.{limit}
+use Rattle.conditions.specs.Result.{Result, accepted, Outcome, outcome, _>>=_, _>>_, refuse_unless_}
 use Rattle.conditions.specs.Conditions.{setUpCheck, ready, headCheck, cipherCheck, moveCheck, recoverCheck, loadCheck}
 use Rattle.engine.specs.declared.Head.{Head}
 use Rattle.engine.specs.Head.{headAt}
@@ -66,7 +65,7 @@ pub record Written : Type 0 where
   pub length : ℕ
   pub lent : List ℕ
 
--- **Write** puts the checkpoint at the start of the lent bytes and returns its length; later bytes stay. 1, 4, 5. 8: fewer lent bytes than that.
+-- **Write** puts the checkpoint at the start of the lent bytes and returns its length; later bytes stay. 1, 4, 5. 8: fewer lent bytes than its length.
 unfoldable pub write : (head : Head) (area lent : List ℕ) → Result Written
 write h area lent = do
   c ← ready (h .code) (h .position) (length area)

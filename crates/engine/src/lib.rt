@@ -1,7 +1,6 @@
-// The engine: a head and its table area, and the seven calls of document 01. A call receives the head and hands back the next one beside its
-// answer. A refused call gives its number, and head, area and every lent byte keep their values.
+// The engine: a head and its table area, the seven calls of document 01, and the length of a checkpoint. Each of the seven receives the head and
+// hands back the next one beside its answer. A refused call gives its number, and head, area and every lent byte keep their values.
 ghost use mathlib.Core.Path.{_≡_};
-ghost use Prim.Native.Nat.{_≤_};
 ghost use lib.ListN.{replicate};
 ghost use Rattle.engine.specs.Head as Heads;
 ghost use Rattle.engine.specs.Calls as Calls;
@@ -37,25 +36,6 @@ pub fn not_written(refusal: u8, head: Head) -> WriteDone
     }
 }
 
-// The length of a checkpoint of a cipher code at a position: what write takes there at least, and gives.
-pub fn checkpoint_length(code: u8, position: u64) -> LengthAnswer
-    ensures { λ r. ⌜ (Answers.told r ≡ Calls.checkpointLengthCall code position) × (r .length ≤ 8197) ⌝ }
-{
-    let checked = conditions::head_check(code, position);
-    let refusal = checked.refusal;
-    if refusal != 0 {
-        return LengthAnswer {
-            refusal: refusal,
-            length: 0,
-        };
-    }
-    let c = checked.cipher;
-    LengthAnswer {
-        refusal: 0,
-        length: checkpoint::length_of(c, position),
-    }
-}
-
 // What a refused load hands back.
 fn not_loaded(refusal: u8, kept: Head) -> LoadDone
     ensures { λ r. ⌜ r ≡ record { answer = record { refusal = refusal; key = replicate 8 0; iv = replicate 8 0 }; head = kept } ⌝ }
@@ -81,6 +61,25 @@ fn not_counted(refusal: u8, head: Head) -> SpentDone
             count: 0,
         },
         head: head,
+    }
+}
+
+// The length of a checkpoint of a cipher code at a position: what write takes there at least, and gives.
+pub fn checkpoint_length(code: u8, position: u64) -> LengthAnswer
+    ensures { λ r. ⌜ Answers.told r ≡ Calls.checkpointLengthCall code position ⌝ }
+{
+    let checked = conditions::head_check(code, position);
+    let refusal = checked.refusal;
+    if refusal != 0 {
+        return LengthAnswer {
+            refusal: refusal,
+            length: 0,
+        };
+    }
+    let c = checked.cipher;
+    LengthAnswer {
+        refusal: 0,
+        length: checkpoint::length_of(c, position),
     }
 }
 

@@ -20,6 +20,7 @@ fn unknown_code(code: u8) {
     case(code, 67_108_865, 1, 0);
 }
 
+// The smallest code, the one after HC-256's, and the largest.
 pub fn unknown_codes() {
     unknown_code(0);
     unknown_code(3);

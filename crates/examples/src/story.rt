@@ -216,7 +216,7 @@ fn checkpoint(code: u8, at: u64, position: &[u8], area: &[u32], other: &mut [u32
     writes_and_loads(code, at, position, area, other, &mut lent[..n]);
 }
 
-// Moves from one position to another, and to its checkpoint.
+// Moves to another position, and writes and loads the checkpoint there.
 fn checkpoint_on(
     code: u8,
     from: u64,
@@ -337,13 +337,13 @@ fn two_groups(code: u8, area: &mut [u32], other: &mut [u32]) {
     checkpoint_on(code, 127, 1, 128, b"\x80\x01", area, other);
 }
 
-// From 128 to 16,384, where it has three.
+// From 128 to 16,384, where a position has three groups.
 fn three_groups(code: u8, area: &mut [u32], other: &mut [u32]) {
     checkpoint_on(code, 128, 16_255, 16_383, b"\xff\x7f", area, other);
     checkpoint_on(code, 16_383, 1, 16_384, b"\x80\x80\x01", area, other);
 }
 
-// From 16,384 to 2,097,152, where it has four.
+// From 16,384 to 2,097,152, where a position has four groups.
 fn four_groups(code: u8, area: &mut [u32], other: &mut [u32]) {
     checkpoint_on(
         code,

@@ -70,7 +70,7 @@ fn put_meaning(fd: i32, refusal: u8) {
             io::write_all(fd, b"the end would be below 0");
         }
         8 => {
-            io::write_all(fd, b"there is too little room for the checkpoint");
+            io::write_all(fd, b"fewer bytes are lent than the checkpoint has");
         }
         9 => {
             io::write_all(fd, b"the checkpoint is empty or ends inside its position");

@@ -6,7 +6,7 @@ use native.Mathlib.Nat.{add-zero, add-suc, suc-add}
 use native.Mathlib.Omega.{arith}
 use borrow.Author.Tests.{eq-eqb, ne-eqb, le-leb}
 use lib.IntN.{pos, negℤ, _-ℤ_, +ℤ-invr}
-use lib.ListN.{length, drop, length-append}
+use lib.ListN.{length, length-append}
 use Rattle.laws.specs.Iterate.{forward}
 use Rattle.laws.proofs.Iterate.{forward-none, forward-first}
 use Rattle.word.specs.Word.{_⊕_}
@@ -32,7 +32,7 @@ use Rattle.conditions.specs.Result.{Result, refused, accepted, Outcome}
 use Rattle.conditions.specs.Limit.{limit}
 use Rattle.engine.specs.Head.{freshHead, headAt}
 use Rattle.conditions.specs.Conditions.{undoAt, foundOr12, Contents, setUpCheck, cipherCheck, loadCheck}
-use Rattle.engine.specs.Calls.{Engine, setUp, setUpCall, cipher, cipherCall, move, moveCall, write, writeCall, recover, recoverCall, load, loadCall}
+use Rattle.engine.specs.Calls.{Engine, setUp, setUpCall, cipher, cipherCall, move, moveCall, writeCall, recover, recoverCall, load, loadCall}
 use Rattle.conditions.proofs.Conditions.{ready-accepted}
 use Rattle.engine.proofs.Calls.{write-done}
 use Rattle.theorems.specs.Account.{Four, IsFour, atPosition, Checkpoint, tablesOf, checkpointOf}

@@ -3,18 +3,17 @@ use mathlib.Core.Path.{_≡_, refl, sym, ap, _∙_, subst₂}
 use mathlib.Core.List.{List, [], _∷_}
 use Prim.Native.Nat.{ℕ, _≤_}
 use native.Mathlib.Omega.{arith}
-use lib.Dec.{leb}
 use lib.ListN.{length}
 use Rattle.laws.proofs.Iterate.{forward-none}
 use Rattle.word.specs.Bytes.{AllBytes}
 use Rattle.cipher.specs.declared.Cipher.{Cipher}
-use Rattle.cipher.specs.Numbers.{byCode, codeOf, areaLength}
+use Rattle.cipher.specs.Numbers.{codeOf, areaLength}
 use Rattle.tables.specs.Step.{step}
 use Rattle.keys.specs.Key.{Pair}
 use Rattle.steps.specs.Steps.{moved}
 use Rattle.setup.specs.SetUp as SetUp
 use Rattle.engine.specs.declared.Head.{Head}
-use Rattle.conditions.specs.Result.{Result, refused, accepted, outcome, _>>=_, refuse_without_}
+use Rattle.conditions.specs.Result.{Result, refused, accepted, outcome, _>>=_}
 use Rattle.conditions.specs.Limit.{limit}
 use Rattle.engine.specs.Head.{headAt}
 use Rattle.conditions.specs.Conditions.{setUpCheck, headCheck, cipherCheck, moveCheck, recoverCheck, Contents, loadCheck}

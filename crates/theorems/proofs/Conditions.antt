@@ -16,7 +16,7 @@ use Rattle.setup.specs.SetUp.{Undone, none, found}
 use Rattle.conditions.specs.Result.{Result, refused, accepted}
 use Rattle.conditions.specs.Limit.{limit}
 use Rattle.checkpoint.specs.Checkpoint.{mostGroups}
-use Rattle.conditions.specs.Conditions.{setUpCheck, ready, cipherCheck, within, endOf, Course, moveCheck, undoAt, KeyAndIv, foundOr12, recoverCheck, PositionRead, positionRead, Contents, loadFound, loadCheck}
+use Rattle.conditions.specs.Conditions.{setUpCheck, ready, headCheck, cipherCheck, within, endOf, Course, moveCheck, undoAt, KeyAndIv, foundOr12, recoverCheck, PositionRead, positionRead, Contents, loadFound, loadCheck}
 use Rattle.conditions.proofs.Conditions.{ready-accepted}
 use Rattle.theorems.proofs.Results.{no-refusal, accepted-one, after-line, after-without, after-unless}
 
@@ -92,6 +92,15 @@ pub ready-shows : (code position size : ℕ) (c : Cipher) → ready code positio
 ready-shows code position size c e =
     let (d, r, q) = ready-passed code position size accepted-only e in
     subst (ReadyShows code position size) (accepted-one refl q) r
+
+-- ── a head alone ──
+
+pub head-shows : (code position : ℕ) (c : Cipher) → headCheck code position ≡ accepted c → (code ≡ codeOf c) × (position ≤ limit)
+unfolding headCheck
+head-shows code position c e =
+    after-without 1 (byCode code) _ e no-refusal λ d e₁ r₁.
+    after-unless 5 (leb position limit) _ r₁ no-refusal λ e₂ r₂.
+    (by-code code d e₁ ∙ ap codeOf (accepted-one refl r₂), leb-true position limit e₂)
 
 ready-not-12 : (code position size : ℕ) → ready code position size ≡ refused 12 → ⊥
 ready-not-12 code position size e = no-refusal (ready-passed code position size refused-only e .2)

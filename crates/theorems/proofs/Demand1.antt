@@ -1,10 +1,10 @@
 -- Every refusal of a call is one of its own numbers, since each line of its conditions has one of them; and a refused call leaves what was there.
 -- Assumes nothing.
-use mathlib.Core.Path.{_≡_, refl}
+use mathlib.Core.Path.{refl}
 use mathlib.Core.Bool.{Bool, true, false}
 use mathlib.Core.Option.{Option, none, some}
-use mathlib.Core.List.{List, [], _∷_, List·Memᴰ, List·Memᴰ·head, List·Memᴰ·tail}
-use mathlib.Core.Logic.{_⊎_, inl, inr}
+use mathlib.Core.List.{List, _∷_, List·Memᴰ, List·Memᴰ·head, List·Memᴰ·tail}
+use mathlib.Core.Logic.{inl, inr}
 use Prim.Native.Nat.{ℕ, _+_, _*_}
 use lib.Dec.{eqb, leb}
 use lib.IntN.{ℤ, pos, negsuc, _+ℤ_}
@@ -15,9 +15,9 @@ use Rattle.setup.specs.SetUp as SetUp
 use Rattle.setup.specs.SetUp.{Undone}
 use Rattle.varint.specs.Number.{Reading, is, ended, malformed, readNumber}
 use Rattle.checkpoint.specs.Checkpoint.{mostGroups, lengthOf}
-use Rattle.conditions.specs.Result.{Result, refused, accepted, Outcome, outcome, _>>=_, _>>_, refuse_unless_, refuse_without_}
+use Rattle.conditions.specs.Result.{Result, refused, accepted, outcome, _>>=_, _>>_, refuse_unless_, refuse_without_}
 use Rattle.conditions.specs.Limit.{limit}
-use Rattle.conditions.specs.Conditions.{setUpCheck, ready, headCheck, cipherCheck, within, endOf, moveCheck, undoAt, foundOr12, recoverCheck, positionRead, firstByte, loadFound, loadCheck}
+use Rattle.conditions.specs.Conditions.{setUpCheck, ready, headCheck, cipherCheck, within, endOf, moveCheck, undoAt, foundOr12, recoverCheck, positionRead, firstByte, loadCheck}
 use Rattle.engine.specs.Calls.{setUp, setUpCall, cipher, cipherCall, move, moveCall, write, writeCall, checkpointLength, checkpointLengthCall, recover, recoverCall, load, loadCall, spent, spentCall}
 use Rattle.theorems.specs.Demand1.{AcceptedOrRefused, Demand1}
 

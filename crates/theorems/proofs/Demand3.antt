@@ -8,18 +8,16 @@ use native.Mathlib.Omega.{arith}
 use lib.IntN.{pos, +ℤ-idl}
 use lib.ListN.{length, drop}
 use Rattle.word.specs.Bytes.{AllBytes}
-use Rattle.cipher.specs.declared.Cipher.{Cipher}
 use Rattle.cipher.specs.Numbers.{codeOf, areaLength}
 use Rattle.cipher.proofs.Codes.{code-of}
-use Rattle.engine.specs.declared.Head.{Head}
 use Rattle.conditions.specs.Result.{Result, refused, accepted}
 use Rattle.engine.specs.Head.{headAt}
 use Rattle.checkpoint.specs.Checkpoint.{layout, lengthOf, longest}
 use Rattle.checkpoint.proofs.Checkpoint.{length-longest}
-use Rattle.conditions.specs.Conditions.{ready, Contents, loadCheck}
+use Rattle.conditions.specs.Conditions.{Contents, loadCheck}
 use Rattle.engine.specs.Calls.{Written, Loaded, eightWords, write, load}
 use Rattle.conditions.proofs.Conditions.{set-up-accepted}
-use Rattle.theorems.specs.Account.{Call, call-set-up, call-move, call-load, AllGiven, Four, IsFour, Account, empty, holds, unless-refused, feed, account, engineAfter, accountAfter, tablesOf, checkpointOf, Checkpoint}
+use Rattle.theorems.specs.Account.{Call, call-set-up, call-move, call-load, AllGiven, Four, IsFour, Account, empty, holds, unless-refused, feed, account, engineAfter, accountAfter, checkpointOf, Checkpoint}
 use Rattle.theorems.specs.Demand3.{writeAfter, given, Names, Demand3}
 use Rattle.theorems.proofs.Results.{no-refusal, accepted-one, after-line}
 use Rattle.theorems.proofs.Tables.{four-ready}

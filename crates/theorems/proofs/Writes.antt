@@ -3,8 +3,7 @@ use mathlib.Core.Path.{_≡_, refl, sym, ap, _∙_, subst}
 use mathlib.Core.List.{List, _++_}
 use mathlib.Core.Logic.{⊎-elim, _↔_}
 use Prim.Native.Nat.{ℕ, _≤_, _<_}
-use native.Mathlib.Omega.{arith}
-use borrow.Author.Tests.{le-leb, lt-leb, leb-true}
+use borrow.Author.Tests.{le-leb, lt-leb}
 use lib.Dec.{leb}
 use lib.ListN.{length, drop}
 use lib.Seq.{take-append-seam}
@@ -20,12 +19,11 @@ use Rattle.theorems.specs.Demand3.{given}
 use Rattle.theorems.proofs.Results.{no-refusal, accepted-one, after-line, after-unless}
 use Rattle.theorems.proofs.Conditions.{ReadyShows, ready-shows}
 
--- the layout of head and area is given, in the lent bytes; head, area and later bytes stay
+-- the layout of head and area is given, and head, area and later bytes stay
 pub record WriteShows (h : Head) (area lent : List ℕ) (w : Written) (c : Cipher) : Type 0 where
   pub is-ready : ReadyShows (h .code) (h .position) (length area) c
   pub engine-is : w .engine ≡ engineOf h area
   pub length-is : w .length ≡ lengthOf c (h .position)
-  pub in-lent : w .length ≤ length lent
   pub string : given w ≡ layout c (h .position) area
   pub as-long : length (given w) ≡ w .length
   pub later : w .lent ≡ given w ++ drop (w .length) lent
@@ -49,7 +47,6 @@ module _ (h : Head) (area lent : List ℕ) where
           is-ready = r;
           engine-is = refl;
           length-is = refl;
-          in-lent = leb-true (lengthOf c (h .position)) (length lent) e₂;
           string = g;
           as-long = ap length g ∙ n;
           later = rw (g, ← n);

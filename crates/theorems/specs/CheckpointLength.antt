@@ -5,8 +5,9 @@ use mathlib.Core.Logic.{_↔_}
 use Prim.Native.Nat.{ℕ, _≤_, _<_}
 use lib.ListN.{length}
 use Rattle.cipher.specs.declared.Cipher.{Cipher}
+use Rattle.cipher.specs.Numbers.{codeOf}
 use Rattle.varint.specs.Number.{number}
-use Rattle.checkpoint.specs.Checkpoint.{lengthOf}
+use Rattle.checkpoint.specs.Checkpoint.{lengthOf, longest}
 use Rattle.conditions.specs.Result.{refused, accepted}
 use Rattle.conditions.specs.Limit.{limit}
 use Rattle.conditions.specs.Conditions.{ready}
@@ -21,11 +22,16 @@ pub record CheckpointLength : Type 0 where
   pub two-groups : (position : ℕ) → 128 ≤ position → position < 16384 → length (number position) ≡ 2
   pub three-groups : (position : ℕ) → 16384 ≤ position → position < 2097152 → length (number position) ≡ 3
   pub four-groups : (position : ℕ) → 2097152 ≤ position → position ≤ limit → length (number position) ≡ 4
-  -- 'The length returned' is that of the string written, and what checkpoint length gives for the head's code and position.
+  -- 'The length returned shall be exactly 1, plus the groups of the position (1 to 4), plus 4 times 2T'. It is the length of the string that is
+  -- written, and what checkpoint length gives for the head's code and position.
   pub returned :
-      (h : Head) (area lent : List ℕ) (w : Written) → write h area lent ≡ accepted w
-      → (w .length ≡ length (given w)) × (checkpointLength (h .code) (h .position) ≡ accepted (w .length))
-  -- 'write's condition for 8 becomes fewer lent bytes than that': where 1, 4 and 5 hold, write takes that many bytes and more, ..
+      (h : Head) (area lent : List ℕ) (w : Written) (c : Cipher)
+      → ready (h .code) (h .position) (length area) ≡ accepted c → write h area lent ≡ accepted w
+      → (w .length ≡ lengthOf c (h .position)) × (w .length ≡ length (given w))
+      × (checkpointLength (h .code) (h .position) ≡ accepted (w .length))
+  -- What checkpoint length gives is at most 4,101 or 8,197.
+  pub at-most : (c : Cipher) (position n : ℕ) → checkpointLength (codeOf c) position ≡ accepted n → n ≤ longest c
+  -- 'write's condition for 8 becomes fewer lent bytes than that': where none of 1, 4 and 5 is the answer, write takes that many bytes and more, ..
   pub enough :
       (h : Head) (area lent : List ℕ) (c : Cipher) → ready (h .code) (h .position) (length area) ≡ accepted c
       → ((w : Written) × (write h area lent ≡ accepted w)) ↔ (lengthOf c (h .position) ≤ length lent)

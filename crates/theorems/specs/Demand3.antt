@@ -39,7 +39,7 @@ pub record Demand3 : Type 0 where
       → accountAfter calls area ≡ holds f → writeAfter calls area lent ≡ accepted w
       → (w .length ≡ lengthOf (f .cipher) (f .position)) × (w .length ≤ longest (f .cipher)) × (length (given w) ≡ w .length)
       × (w .lent ≡ given w ++ drop (w .length) lent)
-  -- Whenever the account is a four, a write is accepted exactly where so many bytes are lent.
+  -- Whenever the account is a four, a write is accepted exactly where at least so many bytes are lent.
   pub writable :
       (calls : List Call) → AllGiven calls → (area lent : List ℕ) (f : Four)
       → accountAfter calls area ≡ holds f

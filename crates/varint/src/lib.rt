@@ -1,4 +1,4 @@
-// Numbers in groups of seven bits, lowest first: the writer and the reader.
+// Numbers in groups of seven bits, lowest first: the writer, the count of the groups, and the reader.
 ghost use mathlib.Core.Path.{_≡_};
 ghost use Prim.Native.Nat.{_+_, _≤_};
 ghost use lib.ListN.{length, drop};

@@ -25,10 +25,10 @@ write-checkpoint-requires c κs =
 
 returns-3 : tie.Need-returns-3
 returns-3 c =
-    let roomy = c .before .before .before .before in
-    let tested = roomy .before .before in
-    let e = roomy .before .length-of .ensures in
-    write-done _ _ _ _ (is-accepted _ _ _ (tested .before .ready .ensures .0) (tested .if1 .left)) _ _ e (roomy .if2 .left) (c .before .before .write-checkpoint .ensures)
+    let enough = c .before .before .before .before in
+    let tested = enough .before .before in
+    let e = enough .before .length-of .ensures in
+    write-done _ _ _ _ (is-accepted _ _ _ (tested .before .ready .ensures .0) (tested .if1 .left)) _ _ e (enough .if2 .left) (c .before .before .write-checkpoint .ensures)
 
 pub write-spec : {M : Type 1} → statement M
 write-spec =

@@ -5,12 +5,14 @@ use native.Mathlib.Omega.{arith}
 use borrow.Author.Needs.{needs}
 use lib.ListN.{length}
 use lib.Seq.{length-take-le}
+use Rattle.theorems.proofs.CheckpointLength.{told-within}
 use Rattle.hullerbamboo.proofs.sizes.checkpoint_part.Statement.{statement}
 use Rattle.hullerbamboo.proofs.sizes.checkpoint_part.Tie as tie
 
 returns : tie.Need-returns
 returns c =
-    let l : c .checkpoint-length .result .length ≤ length (c .before .before .before .args .lent .now) = omega (arith, c .checkpoint-length .ensures .1) in
+    let told = told-within _ _ _ (c .checkpoint-length .ensures) in
+    let l : c .checkpoint-length .result .length ≤ length (c .before .before .before .args .lent .now) = omega (arith, told) in
     (l, sym (length-take-le _ _ l))
 
 pub checkpoint-part-spec : {M : Type 1} → statement M
