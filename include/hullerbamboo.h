@@ -21,7 +21,7 @@
  *
  * Nothing here is authenticated: hc_load refuses a damaged checkpoint whose tables have no key and IV, and that is all it can tell.
  *
- * "Stack" is the most that a call took below its return address in a measurement on x86-64, with memcpy and memset bound beforehand. */
+ * "Stack" is the most that a call took below its return address in a measurement on x86-64 (bench/stack), with memcpy and memset bound beforehand. */
 #ifndef HULLERBAMBOO_H
 #define HULLERBAMBOO_H
 
@@ -123,7 +123,7 @@ uint8_t hc_recover(struct hc_head *head, const uint32_t *area, size_t area_words
 
 /* Load: fills area and head from a checkpoint and returns its key and IV. The area must already have the size for the checkpoint's cipher. string is
  * the checkpoint and no byte more. Before it accepts, it takes every step back to set up and checks the key and IV that it finds there.
- * Refusals: 9, 1, 4, then for the position 10 or 9, then 5, 11, 12. Stack: 8,784 bytes. */
+ * Refusals: 9, 1, 4, then for the position 10 or 9, then 5, 11, 12. Stack: 8,872 bytes. */
 struct hc_words hc_load(struct hc_head *head, uint32_t *area, size_t area_words, const uint8_t *string, size_t string_bytes);
 
 /* Spent: how many keystream bytes have been used, which is the position. The head stays.

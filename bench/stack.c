@@ -1,0 +1,87 @@
+/* The stack that each call takes, on x86-64: a call is made on a stack of its own, filled beforehand, and the lowest byte that has changed shows how deep
+ * it went. Printed is the most over both ciphers and over positions with one to four groups, below the return address, in eights. */
+#include <stdio.h>
+#include <stdlib.h>
+#include <string.h>
+#include "hullerbamboo.h"
+
+enum { STACK = 1 << 16, ABOVE = 64, FILL = 0xa5 };
+
+static _Alignas(64) uint8_t stack[STACK];
+static uint32_t area[HC_256_AREA_WORDS], other[HC_256_AREA_WORDS];
+static uint8_t key[32], iv[32], found_key[32], found_iv[32], checkpoint[HC_256_CHECKPOINT_BYTES], bytes[9000];
+
+struct call {
+    const char *name;
+    uintptr_t most;
+};
+
+static struct call set_up = {"hc_set_up", 0}, cipher = {"hc_cipher", 0}, move = {"hc_move", 0}, checkpoint_length = {"hc_checkpoint_length", 0},
+                   writing = {"hc_write", 0}, recover = {"hc_recover", 0}, load = {"hc_load", 0}, spent = {"hc_spent", 0};
+
+/* Makes a call with up to eight arguments, the last two on the stack, and keeps the most that it took. */
+static void measure(struct call *call, void *function, const uintptr_t arguments[8])
+{
+    uint8_t *top = stack + STACK - ABOVE;
+    memset(stack, FILL, STACK);
+    memcpy(top, arguments + 6, 2 * sizeof *arguments);
+    __asm__ volatile("mov %%rsp, %%rbx\n\tmov %0, %%rsp\n\tmov %1, %%rax\n\tmov %2, %%r10\n\t"
+                     "mov 0(%%r10), %%rdi\n\tmov 8(%%r10), %%rsi\n\tmov 16(%%r10), %%rdx\n\t"
+                     "mov 24(%%r10), %%rcx\n\tmov 32(%%r10), %%r8\n\tmov 40(%%r10), %%r9\n\t"
+                     "call *%%rax\n\tmov %%rbx, %%rsp"
+                     :
+                     : "r"(top), "r"(function), "r"(arguments)
+                     : "rax", "rbx", "rcx", "rdx", "rsi", "rdi", "r8", "r9", "r10", "r11", "xmm0", "xmm1", "xmm2", "xmm3", "xmm4", "xmm5", "xmm6", "xmm7",
+                       "xmm8", "xmm9", "xmm10", "xmm11", "xmm12", "xmm13", "xmm14", "xmm15", "memory", "cc");
+    size_t low = 0;
+    while (low < STACK && stack[low] == FILL)
+        low++;
+    uintptr_t depth = (size_t)(top - stack) - sizeof(void *) > low ? (size_t)(top - stack) - sizeof(void *) - low : 0;
+    if (depth > call->most)
+        call->most = depth;
+}
+
+#define MEASURE(call, function, ...) measure(&call, (void *)function, (const uintptr_t[8]){__VA_ARGS__})
+#define AT(pointer) (uintptr_t)(pointer)
+
+/* Every call of one cipher: at each position what a head there can do, and then cipher and move calls of many lengths. */
+static void of_cipher(uint8_t code, size_t key_bytes, size_t words)
+{
+    memset(key, code, sizeof key);
+    static const uint64_t positions[] = {0, 1, 127, 128, 16383, 16384, 2097151, 2097152, HC_LIMIT};
+    struct hc_head head = {0, 0}, loaded = {0, 0};
+    struct hc_words key_and_iv;
+    MEASURE(set_up, hc_set_up, AT(&head), code, AT(key), key_bytes, AT(iv), key_bytes, AT(area), words);
+    for (size_t i = 0; i < sizeof positions / sizeof *positions; i++) {
+        MEASURE(move, hc_move, AT(&head), AT(area), words, positions[i] - head.position);
+        MEASURE(checkpoint_length, hc_checkpoint_length, code, positions[i]);
+        MEASURE(writing, hc_write, AT(&head), AT(area), words, AT(checkpoint), sizeof checkpoint);
+        MEASURE(recover, hc_recover, AT(&head), AT(area), words, AT(found_key), key_bytes, AT(found_iv), key_bytes);
+        size_t length = hc_checkpoint_length(code, positions[i]).length;
+        MEASURE(load, hc_load, AT(&key_and_iv), AT(&loaded), AT(other), words, AT(checkpoint), length);
+        MEASURE(spent, hc_spent, AT(&head));
+        if (key_and_iv.refusal != HC_OK || loaded.position != positions[i] || memcmp(found_key, key, key_bytes) != 0) {
+            printf("not every call was accepted at position %llu\n", (unsigned long long)positions[i]);
+            exit(1);
+        }
+    }
+    memset(checkpoint + 1, 0x80, 4); /* a fourth group that announces another, which is read deepest */
+    MEASURE(load, hc_load, AT(&key_and_iv), AT(&loaded), AT(other), words, AT(checkpoint), sizeof checkpoint);
+    MEASURE(move, hc_move, AT(&head), AT(area), words, -(uintptr_t)head.position);
+    for (size_t n = 0; n < sizeof bytes; n += 7)
+        MEASURE(cipher, hc_cipher, AT(&head), AT(area), words, AT(bytes), n);
+    for (size_t n = 0; n < sizeof bytes; n += 7) {
+        MEASURE(move, hc_move, AT(&head), AT(area), words, n);
+        MEASURE(move, hc_move, AT(&head), AT(area), words, -(uintptr_t)n);
+    }
+}
+
+int main(void)
+{
+    const struct call *calls[] = {&set_up, &cipher, &move, &checkpoint_length, &writing, &recover, &load, &spent};
+    of_cipher(HC_128, HC_128_KEY_BYTES, HC_128_AREA_WORDS);
+    of_cipher(HC_256, HC_256_KEY_BYTES, HC_256_AREA_WORDS);
+    for (size_t i = 0; i < sizeof calls / sizeof *calls; i++)
+        printf("%-21s %5zu bytes\n", calls[i]->name, (calls[i]->most + 7) / 8 * 8);
+    return 0;
+}
