@@ -112,8 +112,8 @@ uint8_t hc_move(struct hc_head *head, uint32_t *area, size_t area_words, int64_t
  * Refusals: 1, 5. Stack: 0 bytes. */
 struct hc_length hc_checkpoint_length(uint8_t code, uint64_t position);
 
-/* Write: puts the checkpoint of head and area at the start of the lent bytes and returns its length; later bytes, area and head stay. lent_bytes is at
- * least hc_checkpoint_length(head->code, head->position).
+/* Write: puts the checkpoint of head and area at the start of the lent bytes and returns its length; later bytes, area and head stay. Lend at least the
+ * length that hc_checkpoint_length gives for the head's code and position.
  * Refusals: 1, 4, 5, 8. Stack: 208 bytes. */
 struct hc_length hc_write(struct hc_head *head, const uint32_t *area, size_t area_words, uint8_t *lent, size_t lent_bytes);
 
