@@ -29,26 +29,32 @@ module _ (r : Checked) (X : Result Cipher) (n : ℕ) (some : n ≡ 0 → ⊥) (e
   never : r .refusal ≡ 0 → ⊥
   never z = some (sym (ap (λ (q : Checked). q .refusal) e) ∙ z)
 
+  beside : (r .refusal ≡ 0 → ⊥) → r .cipher ≡ Hc128
+  beside _ = ap (λ (q : Checked). q .cipher) e
+
   pub refused-sized : (key iv size : ℕ) → (checkedIs r ≡ X) × Sized r key iv size
   refused-sized key iv size =
-      (refused-is, record { beside = λ _. ap (λ (q : Checked). q .cipher) e; key-is = λ z. absurd (never z); iv-is = λ z. absurd (never z); area-is = λ z. absurd (never z) })
+      (refused-is, record { beside = beside; key-is = λ z. absurd (never z); iv-is = λ z. absurd (never z); area-is = λ z. absurd (never z) })
 
   pub refused-ready : (position size : ℕ) → (checkedIs r ≡ X) × Ready r position size
-  refused-ready position size = (refused-is, record { beside = λ _. ap (λ (q : Checked). q .cipher) e; area-is = λ z. absurd (never z); within = λ z. absurd (never z) })
+  refused-ready position size = (refused-is, record { beside = beside; area-is = λ z. absurd (never z); within = λ z. absurd (never z) })
 
   pub refused-head : (position : ℕ) → (checkedIs r ≡ X) × HeadReady r position
-  refused-head position = (refused-is, record { beside = λ _. ap (λ (q : Checked). q .cipher) e; within = λ z. absurd (never z) })
+  refused-head position = (refused-is, record { beside = beside; within = λ z. absurd (never z) })
 
 module _ (r : Checked) (X : Result Cipher) (c : Cipher) (e : r ≡ record { refusal = 0; cipher = c }) (x : X ≡ accepted c) where
   passed-is : checkedIs r ≡ X
   passed-is = rw (e, x)
 
+  none-beside : (r .refusal ≡ 0 → ⊥) → r .cipher ≡ Hc128
+  none-beside h = absurd (h (ap (λ (q : Checked). q .refusal) e))
+
   pub passed-sized : (key iv size : ℕ) → key ≡ keyLength c → iv ≡ ivLength c → size ≡ areaLength c
       → (checkedIs r ≡ X) × Sized r key iv size
-  passed-sized key iv size k v s = (passed-is, record { beside = λ h. absurd (h (ap (λ (q : Checked). q .refusal) e)); key-is = λ z. rw e k; iv-is = λ z. rw e v; area-is = λ z. rw e s })
+  passed-sized key iv size k v s = (passed-is, record { beside = none-beside; key-is = λ z. rw e k; iv-is = λ z. rw e v; area-is = λ z. rw e s })
 
   pub passed-ready : (position size : ℕ) → size ≡ areaLength c → position ≤ limit → (checkedIs r ≡ X) × Ready r position size
-  passed-ready position size s l = (passed-is, record { beside = λ h. absurd (h (ap (λ (q : Checked). q .refusal) e)); area-is = λ z. rw e s; within = λ z. l })
+  passed-ready position size s l = (passed-is, record { beside = none-beside; area-is = λ z. rw e s; within = λ z. l })
 
   pub passed-head : (position : ℕ) → position ≤ limit → (checkedIs r ≡ X) × HeadReady r position
-  passed-head position l = (passed-is, record { beside = λ h. absurd (h (ap (λ (q : Checked). q .refusal) e)); within = λ z. l })
+  passed-head position l = (passed-is, record { beside = none-beside; within = λ z. l })

@@ -139,7 +139,8 @@ write-counts h area lent (accepted w) e =
     let (c, s) = write-shows h area lent w e in
     omega (arith, ap length (s .later), length-append (given w) (drop (w .length) lent), s .as-long)
 
-counts : (n : ℕ) (bytes : List ℕ) → n ≤ length bytes → Tasks.Counts n bytes
+-- a number that is no greater than the bytes counts them
+pub counts : (n : ℕ) (bytes : List ℕ) → n ≤ length bytes → Tasks.Counts n bytes
 counts n bytes l = (l, sym (length-take-le n bytes l))
 
 module _ (lent : List ℕ) (r : Done) (s : List ℕ) where

@@ -1,19 +1,17 @@
 -- `files::read_some` meets its contract: what counts bytes of a part at the start counts bytes of the whole. Assumes nothing.
-use mathlib.Core.Path.{sym}
 use mathlib.Core.List.{List, _++_}
-use Prim.Native.Nat.{ℕ, _≤_}
+use Prim.Native.Nat.{ℕ}
 use native.Mathlib.Omega.{arith}
 use borrow.Author.Needs.{needs}
-use lib.ListN.{length, length-take, length-append}
-use lib.Seq.{length-take-le}
+use lib.ListN.{length-take, length-append}
 use Rattle.io.specs.Counts.{Counts}
+use Rattle.lab.proofs.Tasks.{counts}
 use Rattle.hullerbamboo.proofs.files.read_some.Statement.{statement}
 use Rattle.hullerbamboo.proofs.files.read_some.Tie as tie
 
 counts-more : (n : ℕ) (part rest : List ℕ) → Counts n part → Counts n (part ++ rest)
 counts-more n part rest h =
-    let l : n ≤ length (part ++ rest) = simp length-append (omega arith) in
-    (l, sym (length-take-le n (part ++ rest) l))
+    counts n (part ++ rest) (simp length-append (omega arith))
 
 slice-aggregate-read-from : tie.Need-slice-aggregate-read-from
 slice-aggregate-read-from c = simp length-take (omega arith)
