@@ -3,6 +3,7 @@
 #include "measure.h"
 
 #include <stdio.h>
+#include <stdlib.h>
 
 extern const struct implementation archive, plain_gcc, unrolled_gcc;
 #ifdef WITH_CLANG
@@ -11,10 +12,13 @@ extern const struct implementation plain_clang, unrolled_clang;
 #ifdef WITH_CRYPTOPP
 extern const struct implementation cryptopp;
 #endif
+#ifdef WITH_BEFORE
+extern const struct implementation before;
+#endif
 
-enum column { ARCHIVE, PLAIN_GCC, PLAIN_CLANG, UNROLLED_GCC, UNROLLED_CLANG, CRYPTOPP, COLUMNS };
+enum column { ARCHIVE, PLAIN_GCC, PLAIN_CLANG, UNROLLED_GCC, UNROLLED_CLANG, CRYPTOPP, BEFORE, COLUMNS };
 
-static const char *const titles[COLUMNS] = { "archive", "plain gcc", "plain clang", "unrolled gcc", "unrolled clang", "Crypto++" };
+static const char *const titles[COLUMNS] = { "archive", "plain gcc", "plain clang", "unrolled gcc", "unrolled clang", "Crypto++", "before" };
 
 static const struct implementation *const columns[COLUMNS] = {
     [ARCHIVE] = &archive,
@@ -27,7 +31,16 @@ static const struct implementation *const columns[COLUMNS] = {
 #ifdef WITH_CRYPTOPP
     [CRYPTOPP] = &cryptopp,
 #endif
+#ifdef WITH_BEFORE
+    [BEFORE] = &before,
+#endif
 };
+
+/* The columns of the table: the earlier archive has one only where it was asked for. */
+static int shown(void)
+{
+    return columns[BEFORE] == NULL ? BEFORE : COLUMNS;
+}
 
 static const char *const cipher_titles[2] = { "HC-128", "HC-256" };
 
@@ -57,20 +70,23 @@ static void print_table(void)
     printf("The archive's own figure, then the archive's time divided by the other's: below 1 the archive is faster, 2 means that it takes twice "
            "as long.\n\n");
     printf("| %-28s | %-6s | %14s |", "what", "cipher", titles[ARCHIVE]);
-    for (int c = 1; c < COLUMNS; c++)
+    for (int c = 1; c < shown(); c++)
         printf(" %14s |", titles[c]);
-    printf("\n|---|---|--:|--:|--:|--:|--:|--:|\n");
+    printf("\n|---|---|");
+    for (int c = 0; c < shown(); c++)
+        printf("--:|");
+    printf("\n");
     for (int row = 0; row < ROWS; row++)
         for (int cipher = 0; cipher < 2; cipher++) {
             const double *s = seconds[row][cipher];
             printf("| %-28s | %s | ", about[row].title, cipher_titles[cipher]);
             print_figure((enum row)row, s[ARCHIVE]);
             printf(" |");
-            for (int c = 1; c < COLUMNS; c++)
+            for (int c = 1; c < shown(); c++)
                 if (s[c] == 0)
                     printf(" %14s |", "-");
                 else
-                    printf(" %14.2f |", s[ARCHIVE] / s[c]);
+                    printf(" %14.*f |", c == BEFORE ? 3 : 2, s[ARCHIVE] / s[c]);
             printf("\n");
         }
 }
@@ -121,10 +137,16 @@ static void print_goals(void)
     }
 }
 
-int main(void)
+/* Its argument is the number of rounds. */
+int main(int count, char **arguments)
 {
+    int rounds = count == 2 ? atoi(arguments[1]) : 0;
+    if (rounds < 1) {
+        printf("The number of rounds is to be 1 or more.\n");
+        return 1;
+    }
     check();
-    measure_all(columns, COLUMNS);
+    measure_all(columns, (size_t)shown(), rounds);
     print_table();
     print_goals();
     return 0;

@@ -1,11 +1,11 @@
-/* The timing: in every round each implementation is timed once, in turn, so that a change of the machine's speed reaches all of them. */
+/* The timing: in every turn each implementation is timed once, so that a change of the machine's speed reaches all of them. A round goes through all
+ * rows, with as many turns as each row has. */
 #include "measure.h"
 
 #include <stdio.h>
 #include <stdlib.h>
 #include <time.h>
 
-#define REPETITIONS 7
 #define SMALL_POSITION 1001
 
 const struct row_about about[ROWS] = {
@@ -164,8 +164,8 @@ static double time_row(struct engine *e, enum row row)
     }
 }
 
-/* Times each implementation once, beginning with another one in each round. */
-static void measure_round(enum row row, int cipher, size_t count, size_t first)
+/* Times each implementation once, beginning with another one in each turn. */
+static void measure_turn(enum row row, int cipher, size_t count, size_t first)
 {
     for (size_t k = 0; k < count; k++) {
         size_t c = (first + k) % count;
@@ -191,14 +191,14 @@ static void create_engines(const struct implementation *const *columns, size_t c
         }
 }
 
-void measure_all(const struct implementation *const *columns, size_t count)
+void measure_all(const struct implementation *const *columns, size_t count, int rounds)
 {
     create_engines(columns, count);
-    for (int repetition = 0; repetition < REPETITIONS; repetition++) {
-        fprintf(stderr, "repetition %d of %d\n", repetition + 1, REPETITIONS);
+    for (int round = 0; round < rounds; round++) {
+        fprintf(stderr, "round %d of %d\n", round + 1, rounds);
         for (int row = 0; row < ROWS; row++)
             for (int cipher = 0; cipher < 2; cipher++)
-                for (int round = 0; round < about[row].rounds; round++)
-                    measure_round((enum row)row, cipher, count, (size_t)(repetition + round));
+                for (int turn = 0; turn < about[row].turns; turn++)
+                    measure_turn((enum row)row, cipher, count, (size_t)(round + turn));
     }
 }

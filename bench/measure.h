@@ -27,7 +27,7 @@ enum unit { MIB_PER_SECOND, NANOSECONDS, MICROSECONDS, MILLISECONDS };
 struct row_about {
     const char *title;
     enum unit unit;
-    int rounds; /* measurements in one repetition */
+    int turns; /* in one round */
 };
 
 extern const struct row_about about[ROWS];
@@ -37,8 +37,8 @@ extern const struct row_about about[ROWS];
 /* The least time in seconds of one call, or of one buffer in the bulk rows; 0 where the implementation lacks the operation. */
 extern double seconds[ROWS][2][MOST_COLUMNS];
 
-/* Fills seconds for all rows and both ciphers; a null pointer stands for an implementation that is not installed. */
-void measure_all(const struct implementation *const *columns, size_t count);
+/* Fills seconds for all rows and both ciphers, in so many rounds; a null pointer stands for an implementation that is not installed. */
+void measure_all(const struct implementation *const *columns, size_t count, int rounds);
 
 /* The bytes of one buffer in a bulk row. */
 size_t bulk_bytes(enum row row);

@@ -45,11 +45,11 @@ static void measure(struct call *call, void *function, const uintptr_t arguments
 #define AT(pointer) (uintptr_t)(pointer)
 
 /* Every call of one cipher: at each position what a head there can do, and then cipher and move calls of many lengths. */
-static void of_cipher(uint8_t code, size_t key_bytes, size_t words)
+static void of_cipher(uint32_t code, size_t key_bytes, size_t words)
 {
-    memset(key, code, sizeof key);
+    memset(key, (int)code, sizeof key);
     static const uint64_t positions[] = {0, 1, 127, 128, 16383, 16384, 2097151, 2097152, HC_LIMIT};
-    struct hc_head head = {0, 0}, loaded = {0, 0};
+    struct hc_head head = {0}, loaded = {0};
     struct hc_words key_and_iv;
     MEASURE(set_up, hc_set_up, AT(&head), code, AT(key), key_bytes, AT(iv), key_bytes, AT(area), words);
     for (size_t i = 0; i < sizeof positions / sizeof *positions; i++) {

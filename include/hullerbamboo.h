@@ -1,23 +1,33 @@
 /* Hullerbamboo: HC-128 and HC-256 with the way back, for C on x86-64.
  *
- * An engine is a head (cipher code, position) and a table area. Both are yours: the library keeps no state, allocates nothing, takes no lock and
+ * An engine is a head (cipher code, word, position) and a table area. Both are yours: the library keeps no state, allocates nothing, takes no lock and
  * does no input or output, so every call is reentrant, and two engines may be used by two threads at once. From the C library it needs memcpy
  * and memset.
  *
  * Every call returns 0 (HC_OK) or the number of its first refusal, in the order given at the call. A refused call changes nothing: the head, the
  * area and every byte that you lent keep their values. Keys, IVs and keystream are bytes; an area is 32-bit words; a position counts bytes.
+ * No structure below has padding, so a call writes no byte of a head, or of what it returns, that is not the value of a field.
  *
  * Your duties, which C cannot check and the proofs take for granted:
  *   - A pointer is not null and points to as many elements as the length after it says, aligned for its type, for the whole call.
  *   - Of what you lend to one call (head, area, bytes, buffers), nothing that the call writes may overlap anything else. It writes to what is
  *     not const. Inputs that are const may overlap one another.
  *   - While a call runs, no other thread, interrupt or signal handler writes what you lent, or reads what the call writes.
- *   - Keep a head with its own area. The library cannot tell that an area belongs to another head: it goes on with the tables that it gets.
+ *   - Keep a head with its own area, and copy both between the same two calls. Refusal 13 notices some of what goes wrong here, and not all: see below.
  *   - Never encipher two texts at the same positions under one key and IV. Loading a checkpoint twice, or moving back, brings you there.
  *
  * Secret: the key, the area, a checkpoint, and what hc_load returns. The area and a checkpoint are as secret as the key, since hc_recover finds
- * the key in them. hc_load and hc_recover work on a copy of the tables on the stack, and no call wipes its stack. The padding of a head, between its
- * code and its position, takes whatever stood on the stack: do not hand the raw bytes of a head on.
+ * the key in them. hc_load and hc_recover work on a copy of the tables on the stack, and no call wipes its stack. The word of a head is keystream: who knows
+ * it can read up to four bytes of the log.
+ *
+ * Refusal 13: a head's word is the output of the step last taken, from which the bytes of the present word of keystream come, and 0 at position 0.
+ * hc_cipher, hc_move, hc_write and hc_recover work it out from the area and compare. So a head with an area of an earlier position is noticed, as soon as
+ * a word of keystream begins between the two positions: the area lacks the head's last step. These are not noticed:
+ *   - a head with an area of a later position, as long as the later steps have not changed a table word that the output is made of: to the end of the
+ *     turn of 512 (HC-128) or 1,024 (HC-256) words in which the head's step lies, less twelve words where the step is among the turn's first twelve,
+ *     and else up to 255 words into the next turn;
+ *   - a head at position 0 with any area, since the word is 0 there whatever the area holds;
+ *   - two words that are equal by chance: once in 2^32, or once in 2^16 where only two bytes of a changed word count.
  *
  * Nothing here is authenticated: hc_load refuses a damaged checkpoint whose tables have no key and IV, and that is all it can tell.
  *
@@ -63,67 +73,69 @@ enum hc_refusal {
     HC_ENDS_EARLY = 9,     /* the checkpoint is empty or ends inside its position */
     HC_BAD_NUMBER = 10,    /* the checkpoint's position is longer than four bytes, or not in its shortest form */
     HC_STRING_LENGTH = 11, /* the bytes after the position are not as many as the tables */
-    HC_NO_KEY = 12         /* no key and IV have these tables at this position */
+    HC_NO_KEY = 12,        /* no key and IV have these tables at this position */
+    HC_FALSE_WORD = 13     /* the head's word is not the one that the area has at the head's position */
 };
 
-/* A head. Start with { 0, 0 }; only the calls below change it. */
+/* A head. Start with { 0, 0, 0 }; only the calls below change it. */
 struct hc_head {
-    uint8_t code;
+    uint32_t code;
+    uint32_t word;
     uint64_t position;
 };
 
 /* What hc_checkpoint_length and hc_write return. length is 0 where the call is refused. */
 struct hc_length {
-    uint8_t refusal;
+    uint64_t refusal;
     size_t length;
 };
 
 /* What hc_load returns: key and IV as 32-bit words, least significant byte first. HC-128 uses the first four of each and leaves the others 0. All
  * are 0 where the call is refused. */
 struct hc_words {
-    uint8_t refusal;
+    uint64_t refusal;
     uint32_t key[8];
     uint32_t iv[8];
 };
 
 /* What hc_spent returns. count is 0 where the call is refused. */
 struct hc_count {
-    uint8_t refusal;
+    uint64_t refusal;
     uint64_t count;
 };
 
-/* Set up: fills the area from a key and an IV, and the head becomes the given code at position 0, whatever it was.
+/* Set up: fills the area from a key and an IV, and the head becomes the given code and word 0 at position 0, whatever it was.
  * Refusals: 1, 2, 3, 4. Stack: 352 bytes. */
-uint8_t hc_set_up(struct hc_head *head, uint8_t code, const uint8_t *key, size_t key_bytes, const uint8_t *iv, size_t iv_bytes, uint32_t *area,
-                  size_t area_words);
+uint64_t hc_set_up(struct hc_head *head, uint32_t code, const uint8_t *key, size_t key_bytes, const uint8_t *iv, size_t iv_bytes, uint32_t *area,
+                   size_t area_words);
 
 /* Cipher: replaces each lent byte by its exclusive or with the keystream byte, and advances by byte_count. The same call enciphers and deciphers.
  * Any number of bytes may be given at a time, also 0, which changes nothing.
- * Refusals: 1, 4, 5, 6. Stack: 176 bytes. */
-uint8_t hc_cipher(struct hc_head *head, uint32_t *area, size_t area_words, uint8_t *bytes, size_t byte_count);
+ * Refusals: 1, 4, 5, 13, 6. Stack: 200 bytes. */
+uint64_t hc_cipher(struct hc_head *head, uint32_t *area, size_t area_words, uint8_t *bytes, size_t byte_count);
 
-/* Move: takes tables and position forward, or back where distance is negative, by a number of bytes. The time grows with the distance.
- * Refusals: 1, 4, 5, 7, 6. Stack: 112 bytes. */
-uint8_t hc_move(struct hc_head *head, uint32_t *area, size_t area_words, int64_t distance);
+/* Move: takes head and tables forward, or back where distance is negative, by a number of bytes. The time grows with the distance.
+ * Refusals: 1, 4, 5, 13, 7, 6. Stack: 144 bytes. */
+uint64_t hc_move(struct hc_head *head, uint32_t *area, size_t area_words, int64_t distance);
 
 /* Checkpoint length: how many bytes the checkpoint of a cipher has at a position: 1, plus the bytes of the position as a number (1 below 128, 2 below
  * 16,384, 3 below 2,097,152, else 4), plus 4 times the words of the area. For a head's code and position it is what hc_write returns, and the fewest
  * bytes that it takes. It grows with the position: ask again after a cipher call or a move.
  * Refusals: 1, 5. Stack: 0 bytes. */
-struct hc_length hc_checkpoint_length(uint8_t code, uint64_t position);
+struct hc_length hc_checkpoint_length(uint32_t code, uint64_t position);
 
 /* Write: puts the checkpoint of head and area at the start of the lent bytes and returns its length; later bytes, area and head stay. Lend at least the
  * length that hc_checkpoint_length gives for the head's code and position.
- * Refusals: 1, 4, 5, 8. Stack: 208 bytes. */
+ * Refusals: 1, 4, 5, 13, 8. Stack: 192 bytes. */
 struct hc_length hc_write(struct hc_head *head, const uint32_t *area, size_t area_words, uint8_t *lent, size_t lent_bytes);
 
 /* Recover: fills the buffers with the key and the IV from which the tables came. Area and head stay. It takes every step back to set up.
- * Refusals: 1, 4, 5, 2, 3, 12. Stack: 8,688 bytes. */
-uint8_t hc_recover(struct hc_head *head, const uint32_t *area, size_t area_words, uint8_t *key, size_t key_bytes, uint8_t *iv, size_t iv_bytes);
+ * Refusals: 1, 4, 5, 13, 2, 3, 12. Stack: 8,672 bytes. */
+uint64_t hc_recover(struct hc_head *head, const uint32_t *area, size_t area_words, uint8_t *key, size_t key_bytes, uint8_t *iv, size_t iv_bytes);
 
-/* Load: fills area and head from a checkpoint and returns its key and IV. The area must already have the size for the checkpoint's cipher. string is
+/* Load: fills area and head from a checkpoint, whatever the head was, and returns its key and IV. The area must already have the size for the checkpoint's cipher. string is
  * the checkpoint and no byte more. Before it accepts, it takes every step back to set up and checks the key and IV that it finds there.
- * Refusals: 9, 1, 4, then for the position 10 or 9, then 5, 11, 12. Stack: 8,872 bytes. */
+ * Refusals: 9, 1, 4, then for the position 10 or 9, then 5, 11, 12. Stack: 8,824 bytes. */
 struct hc_words hc_load(struct hc_head *head, uint32_t *area, size_t area_words, const uint8_t *string, size_t string_bytes);
 
 /* Spent: how many keystream bytes have been used, which is the position. The head stays.

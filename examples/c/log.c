@@ -1,4 +1,6 @@
-/* The first program to write: log blend ratios, keep a checkpoint, go on from it elsewhere, and read everything back without the key. */
+/* The first program to write: log blend ratios, keep a checkpoint, go on from it elsewhere, and read everything back without the key. On the way it shows
+ * that a refused call changes nothing, and that a head is refused with an area that was copied too early. */
+#include <inttypes.h>
 #include <stdio.h>
 #include <stdlib.h>
 #include <string.h>
@@ -6,12 +8,36 @@
 
 #define WORDS HC_128_AREA_WORDS
 
-static uint32_t area[WORDS], spare[WORDS];
+/* An engine: a head with its own area. Each starts with a head of zeros. */
+struct engine {
+    struct hc_head head;
+    uint32_t area[WORDS];
+};
 
-static void check(const char *call, unsigned refusal)
+static struct engine box = {.head = {0}}, spare = {.head = {0}}, copy, before;
+static const uint8_t zeros[HC_128_CHECKPOINT_BYTES]; /* what calloc gives, to compare lent bytes with */
+
+/* This compiles only where each structure is as long as its fields together. It then has no padding, and memcmp compares nothing but values. */
+#define SIZE(structure, field) sizeof(((struct structure *)0)->field)
+#define NO_PADDING(structure, fields) typedef char structure##_without_padding[sizeof(struct structure) == (fields) ? 1 : -1]
+NO_PADDING(hc_head, SIZE(hc_head, code) + SIZE(hc_head, word) + SIZE(hc_head, position));
+NO_PADDING(hc_length, SIZE(hc_length, refusal) + SIZE(hc_length, length));
+NO_PADDING(hc_words, SIZE(hc_words, refusal) + SIZE(hc_words, key) + SIZE(hc_words, iv));
+NO_PADDING(hc_count, SIZE(hc_count, refusal) + SIZE(hc_count, count));
+NO_PADDING(engine, SIZE(engine, head) + SIZE(engine, area));
+
+static void check(const char *call, uint64_t refusal)
 {
     if (refusal != HC_OK) {
-        printf("%s: refused with %u\n", call, refusal);
+        printf("%s: refused with %" PRIu64 "\n", call, refusal);
+        exit(1);
+    }
+}
+
+static void check_same(const char *what, const void *expected, const void *found, size_t n)
+{
+    if (memcmp(expected, found, n) != 0) {
+        printf("%s: not as expected\n", what);
         exit(1);
     }
 }
@@ -30,41 +56,66 @@ int main(void)
     uint8_t found_key[16], found_iv[16];
     uint8_t log[10] = {0x01, 0x90, 0x02, 0x58, 0x0f, 0x00, 0x64, 0x03, 0xe8, 0x0a}; /* ratios of two, two, three and three bytes */
     uint8_t again[3] = {0x03, 0xe8, 0x0a};                                          /* the fourth ratio, for the second engine */
-    struct hc_head head = {0, 0}, other = {0, 0};
+    uint8_t more[5] = {0x02, 0x1c, 0x01, 0x2c, 0x05};                               /* two more ratios, of two and three bytes */
+    uint8_t seventh[2] = {0x01, 0xf4}, seventh_before[2] = {0x01, 0xf4};            /* a ratio that is not logged, and a copy of it */
 
-    check("set up", hc_set_up(&head, HC_128, key, 16, iv, 16, area, WORDS));
-    check("cipher", hc_cipher(&head, area, WORDS, log, 2));
-    check("cipher", hc_cipher(&head, area, WORDS, log + 2, 2));
-    check("cipher", hc_cipher(&head, area, WORDS, log + 4, 3));
+    check("set up", hc_set_up(&box.head, HC_128, key, 16, iv, 16, box.area, WORDS));
+    check("cipher", hc_cipher(&box.head, box.area, WORDS, log, 2));
+    check("cipher", hc_cipher(&box.head, box.area, WORDS, log + 2, 2));
+    check("cipher", hc_cipher(&box.head, box.area, WORDS, log + 4, 3));
     show("three ratios logged:", log, 7);
 
-    struct hc_length needed = hc_checkpoint_length(head.code, head.position);
+    struct hc_length needed = hc_checkpoint_length(box.head.code, box.head.position);
     check("checkpoint length", needed.refusal);
-    uint8_t *checkpoint = malloc(needed.length);
+    uint8_t *checkpoint = calloc(needed.length, 1);
     if (checkpoint == NULL)
         return 1;
-    printf("a write with one byte fewer than the checkpoint's %zu is refused with %u\n", needed.length,
-           hc_write(&head, area, WORDS, checkpoint, needed.length - 1).refusal);
-    struct hc_length written = hc_write(&head, area, WORDS, checkpoint, needed.length);
+
+    /* A refused call changes no byte of head, area and lent bytes, and what it returns is all zero but for the refusal. */
+    before = box;
+    struct hc_length refused = hc_write(&box.head, box.area, WORDS, checkpoint, needed.length - 1), only_refusal = {HC_LITTLE_ROOM, 0};
+    check_same("head and area", &before, &box, sizeof box);
+    check_same("lent bytes", zeros, checkpoint, needed.length);
+    check_same("what is returned", &only_refusal, &refused, sizeof refused);
+    printf("a write with one byte fewer than the checkpoint's %zu is refused with %" PRIu64 ", and every byte stays\n", needed.length, refused.refusal);
+
+    struct hc_length written = hc_write(&box.head, box.area, WORDS, checkpoint, needed.length);
     check("write", written.refusal);
-    struct hc_words loaded = hc_load(&other, spare, WORDS, checkpoint, written.length);
+    struct hc_words loaded = hc_load(&spare.head, spare.area, WORDS, checkpoint, written.length);
     check("load", loaded.refusal);
     free(checkpoint);
-    printf("checkpoint of %zu bytes, loaded: position %llu\n", written.length, (unsigned long long)other.position);
+    printf("checkpoint of %zu bytes, loaded: position %" PRIu64 "\n", written.length, spare.head.position);
 
-    check("cipher", hc_cipher(&head, area, WORDS, log + 7, 3));
-    check("cipher", hc_cipher(&other, spare, WORDS, again, 3));
+    check("cipher", hc_cipher(&box.head, box.area, WORDS, log + 7, 3));
+    check("cipher", hc_cipher(&spare.head, spare.area, WORDS, again, 3));
     show("fourth ratio logged:", log + 7, 3);
     show("on the other engine:", again, 3);
 
-    struct hc_count spent = hc_spent(&head);
+    struct hc_count spent = hc_spent(&box.head);
     check("spent", spent.refusal);
-    check("move", hc_move(&head, area, WORDS, -(int64_t)spent.count));
-    check("cipher", hc_cipher(&head, area, WORDS, log, sizeof log));
+    check("move", hc_move(&box.head, box.area, WORDS, -(int64_t)spent.count));
+    check("cipher", hc_cipher(&box.head, box.area, WORDS, log, sizeof log));
     show("moved back and read:", log, sizeof log);
 
-    check("recover", hc_recover(&head, area, WORDS, found_key, 16, found_iv, 16));
+    check("recover", hc_recover(&box.head, box.area, WORDS, found_key, 16, found_iv, 16));
     printf("key and IV recovered: \"%.16s\", \"%.16s\"\n", (char *)found_key, (char *)found_iv);
-    printf("a move to before the start is refused with %u\n", hc_move(&head, area, WORDS, -11));
+
+    before = box;
+    uint64_t refusal = hc_move(&box.head, box.area, WORDS, -11);
+    check_same("head and area", &before, &box, sizeof box);
+    printf("a move to before the start is refused with %" PRIu64 ", and every byte stays\n", refusal);
+
+    /* The area is copied, two more ratios are logged, the second of which begins a new word of the keystream, and only then the head is copied: head and
+     * area do not belong together, and 13 says so. */
+    memcpy(copy.area, box.area, sizeof copy.area);
+    check("cipher", hc_cipher(&box.head, box.area, WORDS, more, 2));
+    check("cipher", hc_cipher(&box.head, box.area, WORDS, more + 2, 3));
+    show("two more ratios logged:", more, sizeof more);
+    copy.head = box.head;
+    before = copy;
+    refusal = hc_cipher(&copy.head, copy.area, WORDS, seventh, sizeof seventh);
+    check_same("head and area", &before, &copy, sizeof copy);
+    check_same("lent bytes", seventh_before, seventh, sizeof seventh);
+    printf("a head copied two ratios after its area is refused with %" PRIu64 ", and every byte stays\n", refusal);
     return 0;
 }

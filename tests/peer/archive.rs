@@ -1,45 +1,56 @@
 //! The C calls of the archive, as include/hullerbamboo.h declares them.
 
+use std::mem::size_of;
+
 #[repr(C)]
-#[derive(Clone, Copy, PartialEq, Debug)]
 pub struct HcHead {
-    pub code: u8,
+    pub code: u32,
+    pub word: u32,
     pub position: u64,
 }
 
 #[repr(C)]
+#[derive(Clone, Copy)]
 pub struct HcLength {
-    pub refusal: u8,
+    pub refusal: u64,
     pub length: usize,
 }
 
 #[repr(C)]
+#[derive(Clone, Copy)]
 pub struct HcWords {
-    pub refusal: u8,
+    pub refusal: u64,
     pub key: [u32; 8],
     pub iv: [u32; 8],
 }
 
 #[repr(C)]
+#[derive(Clone, Copy)]
 pub struct HcCount {
-    pub refusal: u8,
+    pub refusal: u64,
     pub count: u64,
 }
+
+// Each structure is as long as its fields together, so it has no padding.
+const _: () = assert!(size_of::<HcHead>() == 4 + 4 + 8);
+const _: () = assert!(size_of::<HcLength>() == 8 + 8);
+const _: () = assert!(size_of::<HcWords>() == 8 + 8 * 4 + 8 * 4);
+const _: () = assert!(size_of::<HcCount>() == 8 + 8);
 
 extern "C" {
     pub fn hc_set_up(
         head: *mut HcHead,
-        code: u8,
+        code: u32,
         key: *const u8,
         key_bytes: usize,
         iv: *const u8,
         iv_bytes: usize,
         area: *mut u32,
         area_words: usize,
-    ) -> u8;
-    pub fn hc_cipher(head: *mut HcHead, area: *mut u32, area_words: usize, bytes: *mut u8, byte_count: usize) -> u8;
-    pub fn hc_move(head: *mut HcHead, area: *mut u32, area_words: usize, distance: i64) -> u8;
-    pub fn hc_checkpoint_length(code: u8, position: u64) -> HcLength;
+    ) -> u64;
+    pub fn hc_cipher(head: *mut HcHead, area: *mut u32, area_words: usize, bytes: *mut u8, byte_count: usize) -> u64;
+    pub fn hc_move(head: *mut HcHead, area: *mut u32, area_words: usize, distance: i64) -> u64;
+    pub fn hc_checkpoint_length(code: u32, position: u64) -> HcLength;
     pub fn hc_write(head: *mut HcHead, area: *const u32, area_words: usize, lent: *mut u8, lent_bytes: usize) -> HcLength;
     pub fn hc_recover(
         head: *mut HcHead,
@@ -49,7 +60,7 @@ extern "C" {
         key_bytes: usize,
         iv: *mut u8,
         iv_bytes: usize,
-    ) -> u8;
+    ) -> u64;
     pub fn hc_load(head: *mut HcHead, area: *mut u32, area_words: usize, string: *const u8, string_bytes: usize) -> HcWords;
     pub fn hc_spent(head: *mut HcHead) -> HcCount;
 }

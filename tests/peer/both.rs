@@ -1,28 +1,23 @@
 //! One engine held twice, by the archive and by the peer; each call is made on both and everything is compared.
 
-use crate::archive::{self, HcHead};
+use crate::archive::{self, HcCount, HcHead, HcLength, HcWords};
 use crate::calls::{self, Head};
-use crate::ciphers::Cipher;
+use crate::ciphers::{self, Cipher};
 use crate::lent::Lent;
 use crate::tally::Tally;
 use std::fmt::{Debug, LowerHex};
+use std::mem::transmute;
 
 /// The answer on which both sides agree, or the text of a difference.
-pub type Agreed<T> = Result<Result<T, u8>, String>;
+pub type Agreed<T> = Result<Result<T, u64>, String>;
 
 const BYTE_GUARD: u8 = 0xA5;
 const WORD_GUARD: u32 = 0xA5C3_965A;
 const HEAD_GUARD: u64 = 0xA5C3_965A_3C69_F00F;
 
-#[repr(C)]
-struct GuardedHead {
-    before: u64,
-    head: HcHead,
-    after: u64,
-}
-
 pub struct Both<'t> {
-    archive_head: GuardedHead,
+    /// The archive's head as raw memory, in the midst of a pattern.
+    archive_head: Lent<u64>,
     archive_area: Lent<u32>,
     /// The peer's head.
     pub head: Head,
@@ -55,6 +50,13 @@ impl Comparison {
         }
     }
 
+    /// Compares the bytes that a structure has in memory.
+    fn equal_bytes(&mut self, what: &str, archive: &[u8], peer: &[u8]) {
+        if archive != peer {
+            self.differences.push(format!("bytes of the {what}: archive {archive:02x?}, peer {peer:02x?}"));
+        }
+    }
+
     fn guards<T: Copy + PartialEq>(&mut self, what: &str, lent: &Lent<T>) {
         if !lent.guards_kept() {
             self.differences.push(format!("{what}: the archive wrote outside"));
@@ -63,7 +65,7 @@ impl Comparison {
 }
 
 /// The answer of an archive's call that returns only a refusal.
-fn plain(refusal: u8) -> Result<(), u8> {
+fn plain(refusal: u64) -> Result<(), u64> {
     if refusal == 0 {
         Ok(())
     } else {
@@ -71,8 +73,26 @@ fn plain(refusal: u8) -> Result<(), u8> {
     }
 }
 
+/// The number that the archive must return for an answer.
+fn number<T>(result: &Result<T, u64>) -> u64 {
+    match result {
+        Ok(_) => 0,
+        Err(refusal) => *refusal,
+    }
+}
+
+/// The bytes of a head in memory.
+fn bytes_of_head(head: Head) -> Vec<u8> {
+    [&head.code.to_le_bytes()[..], &head.word.to_le_bytes(), &head.position.to_le_bytes()].concat()
+}
+
+/// The bytes of numbers of 64 bits in memory.
+fn bytes_of_numbers(numbers: &[u64]) -> Vec<u8> {
+    numbers.iter().flat_map(|number| number.to_le_bytes()).collect()
+}
+
 /// The word that the count has for a refusal or for none.
-fn answer<T>(result: &Result<T, u8>) -> String {
+fn answer<T>(result: &Result<T, u64>) -> String {
     match result {
         Ok(_) => "accepted".to_string(),
         Err(refusal) => refusal.to_string(),
@@ -89,14 +109,42 @@ pub fn short(bytes: &[u8]) -> String {
 impl<'t> Both<'t> {
     pub fn new(head: Head, area: Vec<u32>, tally: &'t mut Tally) -> Both<'t> {
         let before = 1 + (tally.calls % 7) as usize;
-        let archive_head = HcHead { code: head.code, position: head.position };
-        Both {
-            archive_head: GuardedHead { before: HEAD_GUARD, head: archive_head, after: HEAD_GUARD },
+        let mut both = Both {
+            archive_head: Lent::new(&[HEAD_GUARD; 2], HEAD_GUARD, before),
             archive_area: Lent::new(&area, WORD_GUARD, before),
             head,
             area,
             calls: 0,
             tally,
+        };
+        both.put_head(head);
+        both
+    }
+
+    /// Puts a head of the caller's choice in the place of the present one, on both sides.
+    pub fn put_head(&mut self, head: Head) {
+        let place = self.head_pointer();
+        unsafe { place.write(HcHead { code: head.code, word: head.word, position: head.position }) };
+        self.head = head;
+    }
+
+    /// Puts an area of the caller's choice, as long as the present one, in its place, on both sides.
+    pub fn put_area(&mut self, area: &[u32]) {
+        self.archive_area.content_mut().copy_from_slice(area);
+        self.area.copy_from_slice(area);
+    }
+
+    fn head_pointer(&mut self) -> *mut HcHead {
+        self.archive_head.pointer().cast()
+    }
+
+    /// Whether the head names a cipher and a position and has another word than the tables.
+    fn has_false_word(&self) -> bool {
+        match Cipher::of_code(self.head.code) {
+            Some(cipher) if cipher.area_words() <= self.area.len() => {
+                calls::engine_is_good(&self.head, &self.area[..cipher.area_words()]) == Err(13)
+            }
+            _ => false,
         }
     }
 
@@ -108,16 +156,17 @@ impl<'t> Both<'t> {
     fn begin(&mut self, call: String) -> Comparison {
         self.calls += 1;
         let head = self.head;
-        let text = format!("call {}: {call}, head code {} position {}", self.calls, head.code, head.position);
+        let text = format!(
+            "call {}: {call}, head code {:#x} word {:#010x} position {}",
+            self.calls, head.code, head.word, head.position
+        );
         Comparison { call: text, differences: Vec::new() }
     }
 
     /// Compares heads, areas and guards, and gives the text of all differences of the call.
     fn end(&mut self, mut comparison: Comparison) -> Result<(), String> {
-        let archive_head = Head { code: self.archive_head.head.code, position: self.archive_head.head.position };
-        comparison.equal("head afterwards", archive_head, self.head);
-        comparison.equal("guard before the head", self.archive_head.before, HEAD_GUARD);
-        comparison.equal("guard after the head", self.archive_head.after, HEAD_GUARD);
+        comparison.equal_bytes("head", &bytes_of_numbers(self.archive_head.content()), &bytes_of_head(self.head));
+        comparison.guards("head", &self.archive_head);
         comparison.equal_lists("area", self.archive_area.content(), &self.area);
         comparison.guards("area", &self.archive_area);
         if comparison.differences.is_empty() {
@@ -127,11 +176,13 @@ impl<'t> Both<'t> {
         }
     }
 
-    pub fn set_up(&mut self, words: usize, code: u8, key: &[u8], iv: &[u8]) -> Agreed<()> {
-        let mut comparison = self.begin(format!("set up, code {code}, key {}, IV {}, area {words} words", short(key), short(iv)));
+    pub fn set_up(&mut self, words: usize, code: u32, key: &[u8], iv: &[u8]) -> Agreed<()> {
+        let mut comparison =
+            self.begin(format!("set up, code {code:#x}, key {}, IV {}, area {words} words", short(key), short(iv)));
+        let had_false_word = self.has_false_word();
         let mut lent_key = self.lend(key);
         let mut lent_iv = self.lend(iv);
-        let head = &mut self.archive_head.head;
+        let head = self.head_pointer();
         let area = self.archive_area.pointer();
         let refusal =
             unsafe { archive::hc_set_up(head, code, lent_key.pointer(), key.len(), lent_iv.pointer(), iv.len(), area, words) };
@@ -142,7 +193,11 @@ impl<'t> Both<'t> {
         comparison.guards("key", &lent_key);
         comparison.guards("IV", &lent_iv);
         self.end(comparison)?;
-        self.tally.call("set up", &answer(&result), Cipher::of_code(code));
+        let cipher = Cipher::of_code(code);
+        self.tally.call("set up", &answer(&result), cipher);
+        if let (Ok(()), Some(cipher), true) = (result, cipher, had_false_word) {
+            self.tally.special("set up over a false word", cipher);
+        }
         Ok(result)
     }
 
@@ -151,7 +206,7 @@ impl<'t> Both<'t> {
         let before = self.head.position;
         let mut lent = self.lend(bytes);
         let mut peer_bytes = bytes.to_vec();
-        let head = &mut self.archive_head.head;
+        let head = self.head_pointer();
         let area = self.archive_area.pointer();
         let refusal = unsafe { archive::hc_cipher(head, area, words, lent.pointer(), bytes.len()) };
         let result = calls::cipher(&mut self.head, &mut self.area[..words], &mut peer_bytes);
@@ -161,6 +216,17 @@ impl<'t> Both<'t> {
         self.end(comparison)?;
         let cipher = Cipher::of_code(self.head.code);
         self.tally.call("cipher", &answer(&result), cipher);
+        if let (Err(13), Some(cipher)) = (result, cipher) {
+            if before == 0 {
+                self.tally.special("13 at position 0", cipher);
+            }
+            if before % 4 != 0 {
+                self.tally.special("13 inside a word", cipher);
+            }
+            if before as u128 + bytes.len() as u128 > calls::LIMIT as u128 {
+                self.tally.special("13 before 6 in cipher", cipher);
+            }
+        }
         if let (Ok(()), Some(cipher)) = (result, cipher) {
             let table = |position: u64| calls::steps_at(position) / cipher.table_words() as u64;
             let after = self.head.position;
@@ -183,7 +249,7 @@ impl<'t> Both<'t> {
     pub fn move_by(&mut self, words: usize, distance: i64) -> Agreed<()> {
         let mut comparison = self.begin(format!("move, distance {distance}, area {words} words"));
         let before = self.head.position;
-        let head = &mut self.archive_head.head;
+        let head = self.head_pointer();
         let area = self.archive_area.pointer();
         let refusal = unsafe { archive::hc_move(head, area, words, distance) };
         let result = calls::move_by(&mut self.head, &mut self.area[..words], distance);
@@ -191,6 +257,15 @@ impl<'t> Both<'t> {
         self.end(comparison)?;
         let cipher = Cipher::of_code(self.head.code);
         self.tally.call("move", &answer(&result), cipher);
+        if let (Err(13), Some(cipher)) = (result, cipher) {
+            let end = before as i128 + distance as i128;
+            if end < 0 {
+                self.tally.special("13 before 7 in move", cipher);
+            }
+            if end > calls::LIMIT as i128 {
+                self.tally.special("13 before 6 in move", cipher);
+            }
+        }
         if let (Ok(()), Some(cipher)) = (result, cipher) {
             let table = |position: u64| calls::steps_at(position) / cipher.table_words() as u64;
             let after = self.head.position;
@@ -214,12 +289,15 @@ impl<'t> Both<'t> {
     }
 
     /// Checkpoint length, which takes neither head nor area; both are compared all the same.
-    pub fn checkpoint_length(&mut self, code: u8, position: u64) -> Agreed<usize> {
-        let mut comparison = self.begin(format!("checkpoint length, code {code}, position {position}"));
+    pub fn checkpoint_length(&mut self, code: u32, position: u64) -> Agreed<usize> {
+        let mut comparison = self.begin(format!("checkpoint length, code {code:#x}, position {position}"));
         let returned = unsafe { archive::hc_checkpoint_length(code, position) };
         let result = calls::checkpoint_length(code, position);
         comparison.equal("answer", plain(returned.refusal), result.map(|_| ()));
         comparison.equal("returned length", returned.length, result.unwrap_or(0));
+        let returned_bytes = unsafe { transmute::<HcLength, [u8; 16]>(returned) };
+        let expected_bytes = bytes_of_numbers(&[number(&result), result.unwrap_or(0) as u64]);
+        comparison.equal_bytes("returned structure", &returned_bytes, &expected_bytes);
         self.end(comparison)?;
         self.tally.call("checkpoint length", &answer(&result), Cipher::of_code(code));
         Ok(result)
@@ -230,12 +308,15 @@ impl<'t> Both<'t> {
         let mut comparison = self.begin(format!("write, {} lent, area {words} words", short(lent_before)));
         let mut lent = self.lend(lent_before);
         let mut peer_lent = lent_before.to_vec();
-        let head = &mut self.archive_head.head;
+        let head = self.head_pointer();
         let area = self.archive_area.pointer();
         let returned = unsafe { archive::hc_write(head, area, words, lent.pointer(), lent_before.len()) };
         let result = calls::write(&self.head, &self.area[..words], &mut peer_lent);
         comparison.equal("answer", plain(returned.refusal), result.map(|_| ()));
         comparison.equal("returned length", returned.length, result.unwrap_or(0));
+        let returned_bytes = unsafe { transmute::<HcLength, [u8; 16]>(returned) };
+        let expected_bytes = bytes_of_numbers(&[number(&result), result.unwrap_or(0) as u64]);
+        comparison.equal_bytes("returned structure", &returned_bytes, &expected_bytes);
         comparison.equal_lists("lent bytes", lent.content(), &peer_lent);
         comparison.guards("lent bytes", &lent);
         self.end(comparison)?;
@@ -246,6 +327,9 @@ impl<'t> Both<'t> {
             let length = calls::checkpoint_length(self.head.code, self.head.position);
             if result == Ok(lent_before.len()) {
                 self.tally.special(&format!("write, groups {groups}, just enough lent"), cipher);
+            }
+            if result == Err(13) && length.is_ok_and(|length| lent_before.len() < length) {
+                self.tally.special("13 before 8 in write", cipher);
             }
             if result == Err(8) && length == Ok(lent_before.len() + 1) {
                 self.tally.special(&format!("write, groups {groups}, one byte too few lent"), cipher);
@@ -262,7 +346,7 @@ impl<'t> Both<'t> {
         let mut lent_iv = self.lend(iv_before);
         let mut peer_key = key_before.to_vec();
         let mut peer_iv = iv_before.to_vec();
-        let head = &mut self.archive_head.head;
+        let head = self.head_pointer();
         let area = self.archive_area.pointer();
         let refusal = unsafe {
             let (key, iv) = (lent_key.pointer(), lent_iv.pointer());
@@ -275,15 +359,24 @@ impl<'t> Both<'t> {
         comparison.guards("key", &lent_key);
         comparison.guards("IV", &lent_iv);
         self.end(comparison)?;
-        self.tally.call("recover", &answer(&result), Cipher::of_code(self.head.code));
+        let cipher = Cipher::of_code(self.head.code);
+        self.tally.call("recover", &answer(&result), cipher);
+        if let (Err(13), Some(cipher)) = (result, cipher) {
+            if key_before.len() != cipher.key_bytes() {
+                self.tally.special("13 before 2 in recover", cipher);
+            } else if iv_before.len() != cipher.key_bytes() {
+                self.tally.special("13 before 3 in recover", cipher);
+            }
+        }
         Ok(result.map(|_| (peer_key, peer_iv)))
     }
 
     pub fn load(&mut self, words: usize, string: &[u8]) -> Agreed<([u32; 8], [u32; 8])> {
         let mut comparison = self.begin(format!("load, {}, area {words} words", short(string)));
         let before = self.head;
+        let had_false_word = self.has_false_word();
         let mut lent = self.lend(string);
-        let head = &mut self.archive_head.head;
+        let head = self.head_pointer();
         let area = self.archive_area.pointer();
         let returned = unsafe { archive::hc_load(head, area, words, lent.pointer(), string.len()) };
         let result = calls::load(&mut self.head, &mut self.area[..words], string);
@@ -291,10 +384,14 @@ impl<'t> Both<'t> {
         let (key, iv) = result.unwrap_or_default();
         comparison.equal("returned key words", returned.key, key);
         comparison.equal("returned IV words", returned.iv, iv);
+        let returned_bytes = unsafe { transmute::<HcWords, [u8; 72]>(returned) };
+        let word_bytes = ciphers::bytes_of_words(&[key, iv].concat());
+        let expected_bytes = [bytes_of_numbers(&[number(&result)]), word_bytes].concat();
+        comparison.equal_bytes("returned structure", &returned_bytes, &expected_bytes);
         comparison.equal_lists("string", lent.content(), string);
         comparison.guards("string", &lent);
         self.end(comparison)?;
-        let cipher = string.first().and_then(|code| Cipher::of_code(*code));
+        let cipher = string.first().and_then(|code| Cipher::of_code(*code as u32));
         let answer = match result {
             Err(9) if string.is_empty() => "9 no bytes".to_string(),
             Err(9) => "9 ends before the last group".to_string(),
@@ -307,18 +404,30 @@ impl<'t> Both<'t> {
             if Cipher::of_code(before.code).is_some_and(|had| had != cipher) {
                 self.tally.special("load where the head had another cipher", cipher);
             }
+            if had_false_word {
+                self.tally.special("load over a false word", cipher);
+            }
         }
         Ok(result)
     }
 
     pub fn spent(&mut self) -> Agreed<u64> {
         let mut comparison = self.begin("spent".to_string());
-        let returned = unsafe { archive::hc_spent(&mut self.archive_head.head) };
+        let has_false_word = self.has_false_word();
+        let head = self.head_pointer();
+        let returned = unsafe { archive::hc_spent(head) };
         let result = calls::spent(&self.head);
         comparison.equal("answer", plain(returned.refusal), result.map(|_| ()));
         comparison.equal("returned count", returned.count, result.unwrap_or(0));
+        let returned_bytes = unsafe { transmute::<HcCount, [u8; 16]>(returned) };
+        let expected_bytes = bytes_of_numbers(&[number(&result), result.unwrap_or(0)]);
+        comparison.equal_bytes("returned structure", &returned_bytes, &expected_bytes);
         self.end(comparison)?;
-        self.tally.call("spent", &answer(&result), Cipher::of_code(self.head.code));
+        let cipher = Cipher::of_code(self.head.code);
+        self.tally.call("spent", &answer(&result), cipher);
+        if let (Ok(_), Some(cipher), true) = (result, cipher, has_false_word) {
+            self.tally.special("spent of a false word", cipher);
+        }
         Ok(result)
     }
 }

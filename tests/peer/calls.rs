@@ -1,5 +1,5 @@
-//! The eight calls: the refusals in their order, then what an accepted call does. Document 01 states seven of them, request (g)
-//! of document 02 changes write, and the C header states the eighth, checkpoint length.
+//! The eight calls: the refusals in their order, then what an accepted call does. Document 01 states seven of them, requests (a)
+//! and (g) of document 02 change them, and the C header states the eighth, checkpoint length.
 
 use crate::ciphers::{self, Cipher};
 
@@ -9,12 +9,13 @@ pub const LIMIT: u64 = 67_108_864;
 /// A head.
 #[derive(Clone, Copy, PartialEq, Debug)]
 pub struct Head {
-    pub code: u8,
+    pub code: u32,
+    pub word: u32,
     pub position: u64,
 }
 
 /// A fresh head.
-pub const FRESH: Head = Head { code: 0, position: 0 };
+pub const FRESH: Head = Head { code: 0, word: 0, position: 0 };
 
 /// The steps that the tables have taken at a position.
 pub fn steps_at(position: u64) -> u64 {
@@ -25,13 +26,27 @@ pub fn steps_at(position: u64) -> u64 {
     }
 }
 
+/// The word of a head at a position: the output of the step last taken, worked out from the tables there, and 0 at position 0.
+pub fn word_at(cipher: Cipher, position: u64, tables: &[u32]) -> u32 {
+    if position == 0 {
+        0
+    } else {
+        ciphers::output(cipher, tables, steps_at(position) - 1)
+    }
+}
+
+/// The head of a cipher and a position that has the word of these tables.
+pub fn head_at(cipher: Cipher, position: u64, tables: &[u32]) -> Head {
+    Head { code: cipher.code(), word: word_at(cipher, position, tables), position }
+}
+
 /// Refusal 1.
-fn code_is_good(code: u8) -> Result<Cipher, u8> {
+fn code_is_good(code: u32) -> Result<Cipher, u64> {
     Cipher::of_code(code).ok_or(1)
 }
 
 /// Refusals 2 and 3.
-fn lengths_are_good(cipher: Cipher, key: &[u8], iv: &[u8]) -> Result<(), u8> {
+fn lengths_are_good(cipher: Cipher, key: &[u8], iv: &[u8]) -> Result<(), u64> {
     if key.len() != cipher.key_bytes() {
         return Err(2);
     }
@@ -42,7 +57,7 @@ fn lengths_are_good(cipher: Cipher, key: &[u8], iv: &[u8]) -> Result<(), u8> {
 }
 
 /// Refusal 4.
-fn area_is_good(cipher: Cipher, area_words: usize) -> Result<(), u8> {
+fn area_is_good(cipher: Cipher, area_words: usize) -> Result<(), u64> {
     if area_words != cipher.area_words() {
         return Err(4);
     }
@@ -50,33 +65,36 @@ fn area_is_good(cipher: Cipher, area_words: usize) -> Result<(), u8> {
 }
 
 /// Refusal 5.
-fn position_is_good(position: u64) -> Result<(), u8> {
+fn position_is_good(position: u64) -> Result<(), u64> {
     if position > LIMIT {
         return Err(5);
     }
     Ok(())
 }
 
-/// Refusals 1, 4 and 5, with which cipher, move, write and recover begin.
-fn engine_is_good(head: &Head, area: &[u32]) -> Result<Cipher, u8> {
+/// Refusals 1, 4, 5 and 13, with which cipher, move, write and recover begin.
+pub fn engine_is_good(head: &Head, area: &[u32]) -> Result<Cipher, u64> {
     let cipher = code_is_good(head.code)?;
     area_is_good(cipher, area.len())?;
     position_is_good(head.position)?;
+    if head.word != word_at(cipher, head.position, area) {
+        return Err(13);
+    }
     Ok(cipher)
 }
 
 /// Set up.
-pub fn set_up(head: &mut Head, code: u8, key: &[u8], iv: &[u8], area: &mut [u32]) -> Result<(), u8> {
+pub fn set_up(head: &mut Head, code: u32, key: &[u8], iv: &[u8], area: &mut [u32]) -> Result<(), u64> {
     let cipher = code_is_good(code)?;
     lengths_are_good(cipher, key, iv)?;
     area_is_good(cipher, area.len())?;
     area.copy_from_slice(&ciphers::set_up(cipher, &ciphers::words_of_bytes(key), &ciphers::words_of_bytes(iv)));
-    *head = Head { code, position: 0 };
+    *head = Head { code, word: 0, position: 0 };
     Ok(())
 }
 
 /// Cipher, one byte at a time.
-pub fn cipher(head: &mut Head, area: &mut [u32], bytes: &mut [u8]) -> Result<(), u8> {
+pub fn cipher(head: &mut Head, area: &mut [u32], bytes: &mut [u8]) -> Result<(), u64> {
     let cipher = engine_is_good(head, area)?;
     if head.position as u128 + bytes.len() as u128 > LIMIT as u128 {
         return Err(6);
@@ -89,11 +107,12 @@ pub fn cipher(head: &mut Head, area: &mut [u32], bytes: &mut [u8]) -> Result<(),
         *byte ^= ciphers::output(cipher, area, number).to_le_bytes()[(head.position % 4) as usize];
         head.position += 1;
     }
+    head.word = word_at(cipher, head.position, area);
     Ok(())
 }
 
 /// Move.
-pub fn move_by(head: &mut Head, area: &mut [u32], distance: i64) -> Result<(), u8> {
+pub fn move_by(head: &mut Head, area: &mut [u32], distance: i64) -> Result<(), u64> {
     let cipher = engine_is_good(head, area)?;
     let end = head.position as i128 + distance as i128;
     if end < 0 {
@@ -105,7 +124,7 @@ pub fn move_by(head: &mut Head, area: &mut [u32], distance: i64) -> Result<(), u
     let end = end as u64;
     ciphers::steps_forward(cipher, area, steps_at(head.position), steps_at(end));
     ciphers::steps_back(cipher, area, steps_at(head.position), steps_at(end));
-    head.position = end;
+    *head = head_at(cipher, end, area);
     Ok(())
 }
 
@@ -121,9 +140,9 @@ pub fn groups_of(number: u64) -> Vec<u8> {
     groups
 }
 
-/// The checkpoint of a code, a position and tables.
-pub fn checkpoint(code: u8, position: u64, tables: &[u32]) -> Vec<u8> {
-    let mut string = vec![code];
+/// The checkpoint of a cipher, a position and tables. It holds no word.
+pub fn checkpoint(cipher: Cipher, position: u64, tables: &[u32]) -> Vec<u8> {
+    let mut string = vec![cipher.code() as u8];
     string.extend(groups_of(position));
     string.extend(ciphers::bytes_of_words(tables));
     string
@@ -135,25 +154,25 @@ fn length_at(cipher: Cipher, position: u64) -> usize {
 }
 
 /// Checkpoint length.
-pub fn checkpoint_length(code: u8, position: u64) -> Result<usize, u8> {
+pub fn checkpoint_length(code: u32, position: u64) -> Result<usize, u64> {
     let cipher = code_is_good(code)?;
     position_is_good(position)?;
     Ok(length_at(cipher, position))
 }
 
 /// Write.
-pub fn write(head: &Head, area: &[u32], lent: &mut [u8]) -> Result<usize, u8> {
+pub fn write(head: &Head, area: &[u32], lent: &mut [u8]) -> Result<usize, u64> {
     let cipher = engine_is_good(head, area)?;
     let length = length_at(cipher, head.position);
     if lent.len() < length {
         return Err(8);
     }
-    lent[..length].copy_from_slice(&checkpoint(head.code, head.position, area));
+    lent[..length].copy_from_slice(&checkpoint(cipher, head.position, area));
     Ok(length)
 }
 
 /// The key and IV whose tables these are at this position, shown by set-up and all steps again, or refusal 12.
-fn key_and_iv_of(cipher: Cipher, position: u64, tables: &[u32]) -> Result<(Vec<u32>, Vec<u32>), u8> {
+fn key_and_iv_of(cipher: Cipher, position: u64, tables: &[u32]) -> Result<(Vec<u32>, Vec<u32>), u64> {
     let steps = steps_at(position);
     let mut back = tables.to_vec();
     ciphers::steps_back(cipher, &mut back, steps, 0);
@@ -169,7 +188,7 @@ fn key_and_iv_of(cipher: Cipher, position: u64, tables: &[u32]) -> Result<(Vec<u
 }
 
 /// Recover.
-pub fn recover(head: &Head, area: &[u32], key: &mut [u8], iv: &mut [u8]) -> Result<(), u8> {
+pub fn recover(head: &Head, area: &[u32], key: &mut [u8], iv: &mut [u8]) -> Result<(), u64> {
     let cipher = engine_is_good(head, area)?;
     lengths_are_good(cipher, key, iv)?;
     let (key_words, iv_words) = key_and_iv_of(cipher, head.position, area)?;
@@ -179,11 +198,11 @@ pub fn recover(head: &Head, area: &[u32], key: &mut [u8], iv: &mut [u8]) -> Resu
 }
 
 /// The cipher, position and table bytes of a string that load refuses, if at all, with 12.
-pub fn parts(area_words: usize, string: &[u8]) -> Result<(Cipher, u64, &[u8]), u8> {
+pub fn parts(area_words: usize, string: &[u8]) -> Result<(Cipher, u64, &[u8]), u64> {
     if string.is_empty() {
         return Err(9);
     }
-    let cipher = code_is_good(string[0])?;
+    let cipher = code_is_good(string[0] as u32)?;
     area_is_good(cipher, area_words)?;
     let rest = &string[1..];
     let announces = |byte: &u8| *byte >= 0x80;
@@ -207,7 +226,7 @@ pub fn parts(area_words: usize, string: &[u8]) -> Result<(Cipher, u64, &[u8]), u
 }
 
 /// Load, which returns the eight key words and the eight IV words.
-pub fn load(head: &mut Head, area: &mut [u32], string: &[u8]) -> Result<([u32; 8], [u32; 8]), u8> {
+pub fn load(head: &mut Head, area: &mut [u32], string: &[u8]) -> Result<([u32; 8], [u32; 8]), u64> {
     let (cipher, position, table_bytes) = parts(area.len(), string)?;
     let tables = ciphers::words_of_bytes(table_bytes);
     let (key, iv) = key_and_iv_of(cipher, position, &tables)?;
@@ -215,12 +234,12 @@ pub fn load(head: &mut Head, area: &mut [u32], string: &[u8]) -> Result<([u32; 8
     words.0[..key.len()].copy_from_slice(&key);
     words.1[..iv.len()].copy_from_slice(&iv);
     area.copy_from_slice(&tables);
-    *head = Head { code: cipher.code(), position };
+    *head = head_at(cipher, position, &tables);
     Ok(words)
 }
 
 /// Spent.
-pub fn spent(head: &Head) -> Result<u64, u8> {
+pub fn spent(head: &Head) -> Result<u64, u64> {
     code_is_good(head.code)?;
     position_is_good(head.position)?;
     Ok(head.position)

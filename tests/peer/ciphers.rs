@@ -8,8 +8,8 @@ pub enum Cipher {
 }
 
 impl Cipher {
-    /// The cipher that a code names.
-    pub fn of_code(code: u8) -> Option<Cipher> {
+    /// The cipher that a code names, all 32 bits of it.
+    pub fn of_code(code: u32) -> Option<Cipher> {
         match code {
             1 => Some(Cipher::Hc128),
             2 => Some(Cipher::Hc256),
@@ -18,7 +18,7 @@ impl Cipher {
     }
 
     /// The code that names the cipher.
-    pub fn code(self) -> u8 {
+    pub fn code(self) -> u32 {
         match self {
             Cipher::Hc128 => 1,
             Cipher::Hc256 => 2,

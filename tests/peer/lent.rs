@@ -27,6 +27,10 @@ impl<T: Copy + PartialEq> Lent<T> {
         &self.store[self.before..self.before + self.count]
     }
 
+    pub fn content_mut(&mut self) -> &mut [T] {
+        &mut self.store[self.before..self.before + self.count]
+    }
+
     /// Whether every guard element has kept its value.
     pub fn guards_kept(&self) -> bool {
         let guards = self.store[..self.before].iter().chain(&self.store[self.before + self.count..]);

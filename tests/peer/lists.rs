@@ -1,8 +1,9 @@
 //! Random lists of calls with valid and damaged arguments.
 
-use crate::both::Both;
+use crate::both::{Agreed, Both};
 use crate::calls::{self, Head, FRESH, LIMIT};
 use crate::ciphers::{self, Cipher};
+use crate::made::NO_CIPHER;
 use crate::random::Random;
 use crate::tally::Tally;
 
@@ -25,6 +26,10 @@ struct List<'t> {
     random: Random,
     both: Both<'t>,
     checkpoints: Vec<Vec<u8>>,
+    /// Heads with the areas that belonged to them, from earlier in the list.
+    copies: Vec<(Head, Vec<u32>)>,
+    /// Whether every call gets head and area as the last one left them, from a fresh head on; then no answer is 13.
+    undisturbed: bool,
     far_calls: u64,
 }
 
@@ -32,40 +37,63 @@ struct List<'t> {
 pub fn run(seed: u64, number: u64, tally: &mut Tally) -> Result<(), String> {
     let mut random = Random::new(seed, number);
     let is_far = number % FAR_LISTS == FAR_LISTS / 2;
-    let head = if is_far { FRESH } else { first_head(&mut random) };
     let area = if random.once_in(8) { vec![0; MEMORY_WORDS] } else { random.words(MEMORY_WORDS) };
+    let head = if is_far { FRESH } else { first_head(&mut random, &area) };
+    let undisturbed = head == FRESH && random.once_in(2);
+    let copies = vec![(head, area.clone())];
     let checkpoints = vec![other_checkpoint(&mut random, Cipher::Hc128), other_checkpoint(&mut random, Cipher::Hc256)];
     let both = Both::new(head, area, tally);
-    let mut list = List { random, both, checkpoints, far_calls: if is_far { FAR_CALLS } else { 0 } };
+    let far_calls = if is_far { FAR_CALLS } else { 0 };
+    let mut list = List { random, both, checkpoints, copies, undisturbed, far_calls };
     if is_far {
         list.go_far()?;
     } else if head == FRESH && !list.random.once_in(4) {
         list.good_set_up()?;
     }
-    let calls = list.random.between(10, 50);
+    let calls = list.random.between(10, 53);
     let large_cipher = list.random.below(calls);
     for number in 0..calls {
         if number == large_cipher {
             let length = list.random.between(10_000, 70_000) as usize;
             list.cipher(length)?;
-        } else {
+        } else if list.undisturbed {
             list.any_call()?;
+        } else {
+            list.disturbed_call()?;
         }
     }
     Ok(())
 }
 
-/// A fresh head or a made-up one.
-fn first_head(random: &mut Random) -> Head {
-    let code = random.pick(&[1, 2]);
-    match random.below(16) {
-        0..=7 => FRESH,
-        8 => Head { code, position: random.below(20_000) },
-        9 => Head { code, position: edge_position(random) },
-        10..=12 => Head { code, position: LIMIT - random.below(9_000) },
-        13 => Head { code, position: LIMIT - random.below(5) },
-        14 => Head { code, position: random.pick(&[LIMIT + 1, LIMIT + 2, 2 * LIMIT, 1 << 32, 1 << 63, u64::MAX - 3, u64::MAX]) },
-        _ => Head { code: random.pick(&[0, 3, 255]), position: random.pick(&[0, 1, 5000, LIMIT, LIMIT + 1, u64::MAX]) },
+/// A fresh head or a made-up one, which mostly has the word of the tables.
+fn first_head(random: &mut Random, area: &[u32]) -> Head {
+    let position = match random.below(16) {
+        0..=7 => return FRESH,
+        8 => random.below(20_000),
+        9 => edge_position(random),
+        10..=12 => LIMIT - random.below(9_000),
+        13 => LIMIT - random.below(5),
+        14 => random.pick(&[LIMIT + 1, LIMIT + 2, 2 * LIMIT, 1 << 32, 1 << 63, u64::MAX - 3, u64::MAX]),
+        _ => {
+            let any = random.next() as u32;
+            let (code, word) = (any_code(random), random.pick(&[0, any]));
+            return Head { code, word, position: random.pick(&[0, 1, 5000, LIMIT, LIMIT + 1, u64::MAX]) };
+        }
+    };
+    let mut head = calls::head_at(random.pick(&[Cipher::Hc128, Cipher::Hc256]), position, area);
+    if random.once_in(8) {
+        head.word ^= 1 << random.below(32);
+    }
+    head
+}
+
+/// A code that names no cipher, or any at all.
+fn any_code(random: &mut Random) -> u32 {
+    let any = random.next() as u32;
+    if random.once_in(8) {
+        any
+    } else {
+        random.pick(&NO_CIPHER)
     }
 }
 
@@ -75,7 +103,7 @@ fn other_checkpoint(random: &mut Random, cipher: Cipher) -> Vec<u8> {
     let words = cipher.key_bytes() / 4;
     let mut area = ciphers::set_up(cipher, &random.words(words), &random.words(words));
     ciphers::steps_forward(cipher, &mut area, 0, calls::steps_at(position));
-    calls::checkpoint(cipher.code(), position, &area)
+    calls::checkpoint(cipher, position, &area)
 }
 
 /// A position near 0, near the end of some table's turn, or any within a few turns.
@@ -117,7 +145,7 @@ impl List<'_> {
     }
 
     /// Mostly the area size of a code's cipher, else any.
-    fn words(&mut self, code: u8) -> usize {
+    fn words(&mut self, code: u32) -> usize {
         match Cipher::of_code(code) {
             Some(cipher) if !self.random.once_in(14) => cipher.area_words(),
             _ => {
@@ -128,7 +156,7 @@ impl List<'_> {
     }
 
     /// Mostly the key and IV length of a code's cipher, else any.
-    fn key_length(&mut self, code: u8) -> usize {
+    fn key_length(&mut self, code: u32) -> usize {
         match Cipher::of_code(code) {
             Some(cipher) if !self.random.once_in(12) => cipher.key_bytes(),
             _ => self.random.pick(&[0, 1, 15, 16, 17, 31, 32, 33, 64]),
@@ -155,6 +183,72 @@ impl List<'_> {
         Ok(())
     }
 
+    /// A call that sometimes gets another head or area than the last one left. Mostly both are put back after it.
+    fn disturbed_call(&mut self) -> Result<(), String> {
+        self.set_right();
+        if self.random.once_in(4) {
+            self.copies.push((self.both.head, self.both.area.clone()));
+        }
+        if !self.random.once_in(8) {
+            return self.any_call();
+        }
+        let (head, area) = (self.both.head, self.both.area.clone());
+        self.disturb();
+        let disturbed = self.both.head;
+        self.any_call()?;
+        let names_cipher = Cipher::of_code(disturbed.code).is_some();
+        if self.both.head == disturbed && !(names_cipher && self.random.once_in(4)) {
+            self.both.put_head(head);
+            self.both.put_area(&area);
+        }
+        Ok(())
+    }
+
+    /// Gives a head with a false word the word of the tables, half of the times.
+    fn set_right(&mut self) {
+        let head = self.both.head;
+        if let (Some(cipher), true) = (Cipher::of_code(head.code), self.random.once_in(2)) {
+            self.both.put_head(calls::head_at(cipher, head.position, &self.both.area));
+        }
+    }
+
+    /// Puts a false word, or something from another moment, in the place of what the last call left.
+    fn disturb(&mut self) {
+        let head = self.both.head;
+        let copy = self.random.below(self.copies.len() as u64) as usize;
+        let (copied_head, copied_area) = self.copies[copy].clone();
+        match self.random.below(12) {
+            0..=3 => self.both.put_head(Head { word: head.word ^ (1 << self.random.below(32)), ..head }),
+            4..=5 => self.both.put_head(Head { word: copied_head.word, ..head }),
+            6 => self.both.put_head(Head { word: 0, ..head }),
+            7 => self.both.put_head(copied_head),
+            8 => self.both.put_area(&copied_area),
+            9 => {
+                self.both.put_head(copied_head);
+                self.both.put_area(&copied_area);
+            }
+            10 => {
+                let cipher = self.random.pick(&[Cipher::Hc128, Cipher::Hc256]);
+                let position = edge_position(&mut self.random);
+                self.both.put_head(calls::head_at(cipher, position, &self.both.area));
+            }
+            _ => {
+                let higher_bit = 1 << self.random.between(8, 31);
+                let any = any_code(&mut self.random);
+                let code = self.random.pick(&[head.code ^ higher_bit, any]);
+                self.both.put_head(Head { code, ..head });
+            }
+        }
+    }
+
+    /// The end of a call. In a list that nobody disturbs, an answer of 13 is wrong.
+    fn end<T>(&self, agreed: Agreed<T>) -> Agreed<T> {
+        match agreed? {
+            Err(13) if self.undisturbed => Err("wrong on both sides: 13 in an undisturbed list".to_string()),
+            answer => Ok(answer),
+        }
+    }
+
     fn any_call(&mut self) -> Result<(), String> {
         match self.random.below(110) {
             0..=9 => self.set_up(),
@@ -172,8 +266,7 @@ impl List<'_> {
     }
 
     fn set_up(&mut self) -> Result<(), String> {
-        let any = self.random.next() as u8;
-        let code = if self.random.once_in(8) { self.random.pick(&[0, 3, 255, any]) } else { self.random.pick(&[1, 2]) };
+        let code = if self.random.once_in(8) { any_code(&mut self.random) } else { self.random.pick(&[1, 2]) };
         let key_length = self.key_length(code);
         let iv_length = self.key_length(code);
         let key = self.random.bytes(key_length);
@@ -202,7 +295,8 @@ impl List<'_> {
     fn cipher(&mut self, length: usize) -> Result<(), String> {
         let words = self.words(self.both.head.code);
         let bytes = self.random.bytes(length);
-        self.both.cipher(words, &bytes).map(|_| ())
+        let agreed = self.both.cipher(words, &bytes);
+        self.end(agreed).map(|_| ())
     }
 
     fn distance(&mut self) -> i64 {
@@ -231,7 +325,8 @@ impl List<'_> {
             distance %= 9_000;
         }
         let words = self.words(self.both.head.code);
-        self.both.move_by(words, distance).map(|_| ())
+        let agreed = self.both.move_by(words, distance);
+        self.end(agreed).map(|_| ())
     }
 
     fn checkpoint_length(&mut self) -> Result<(), String> {
@@ -239,8 +334,7 @@ impl List<'_> {
         if self.random.once_in(4) {
             return self.both.checkpoint_length(head.code, head.position).map(|_| ());
         }
-        let any = self.random.next() as u8;
-        let code = if self.random.once_in(8) { self.random.pick(&[0, 3, 255, any]) } else { self.random.pick(&[1, 2]) };
+        let code = if self.random.once_in(8) { any_code(&mut self.random) } else { self.random.pick(&[1, 2]) };
         let position = match self.random.below(8) {
             0..=3 => edge_position(&mut self.random),
             4..=5 => self.random.below(LIMIT + 1),
@@ -267,7 +361,8 @@ impl List<'_> {
         };
         let lent = self.random.bytes(length);
         let words = self.words(self.both.head.code);
-        if let Ok(checkpoint) = self.both.write(words, &lent)? {
+        let agreed = self.both.write(words, &lent);
+        if let Ok(checkpoint) = self.end(agreed)? {
             self.checkpoints.push(checkpoint);
         }
         Ok(())
@@ -276,20 +371,20 @@ impl List<'_> {
     fn recover(&mut self) -> Result<(), String> {
         let head = self.both.head;
         let words = self.words(head.code);
+        let engine = calls::engine_is_good(&head, &self.both.area[..words]);
         let mut key_length = self.key_length(head.code);
-        let iv_length = self.key_length(head.code);
-        let goes = Cipher::of_code(head.code).is_some_and(|cipher| {
-            words == cipher.area_words()
-                && head.position <= LIMIT
-                && key_length == cipher.key_bytes()
-                && iv_length == cipher.key_bytes()
-        });
+        let mut iv_length = self.key_length(head.code);
+        if engine == Err(13) && self.random.once_in(2) {
+            (key_length, iv_length) = self.random.pick(&[(key_length + 1, iv_length), (key_length, iv_length + 1)]);
+        }
+        let goes = engine.is_ok_and(|cipher| key_length == cipher.key_bytes() && iv_length == cipher.key_bytes());
         if goes && !self.may_go(head.position) {
             key_length -= 1;
         }
         let key = self.random.bytes(key_length);
         let iv = self.random.bytes(iv_length);
-        self.both.recover(words, &key, &iv).map(|_| ())
+        let agreed = self.both.recover(words, &key, &iv);
+        self.end(agreed).map(|_| ())
     }
 
     fn load(&mut self) -> Result<(), String> {
@@ -302,7 +397,7 @@ impl List<'_> {
                 string = self.damaged(string);
             }
         }
-        let code = string.first().copied().unwrap_or(self.both.head.code);
+        let code = string.first().map_or(self.both.head.code, |byte| *byte as u32);
         let words = self.words(code);
         if let Ok((_, position, _)) = calls::parts(words, &string) {
             if !self.may_go(position) {

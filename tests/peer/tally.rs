@@ -9,11 +9,14 @@ const COLUMNS: [&str; 3] = ["HC-128", "HC-256", "neither"];
 /// For each call the answers that it must give, and whether the code names a cipher where the answer occurs.
 const EXPECTED: [(&str, &[(&str, bool)]); 8] = [
     ("set up", &[("accepted", true), ("1", false), ("2", true), ("3", true), ("4", true)]),
-    ("cipher", &[("accepted", true), ("1", false), ("4", true), ("5", true), ("6", true)]),
-    ("move", &[("accepted", true), ("1", false), ("4", true), ("5", true), ("7", true), ("6", true)]),
+    ("cipher", &[("accepted", true), ("1", false), ("4", true), ("5", true), ("13", true), ("6", true)]),
+    ("move", &[("accepted", true), ("1", false), ("4", true), ("5", true), ("13", true), ("7", true), ("6", true)]),
     ("checkpoint length", &[("accepted", true), ("1", false), ("5", true)]),
-    ("write", &[("accepted", true), ("1", false), ("4", true), ("5", true), ("8", true)]),
-    ("recover", &[("accepted", true), ("1", false), ("4", true), ("5", true), ("2", true), ("3", true), ("12", true)]),
+    ("write", &[("accepted", true), ("1", false), ("4", true), ("5", true), ("13", true), ("8", true)]),
+    (
+        "recover",
+        &[("accepted", true), ("1", false), ("4", true), ("5", true), ("13", true), ("2", true), ("3", true), ("12", true)],
+    ),
     (
         "load",
         &[
@@ -33,7 +36,7 @@ const EXPECTED: [(&str, &[(&str, bool)]); 8] = [
 ];
 
 /// Calls of special interest that must occur for both ciphers.
-const SPECIAL: [&str; 18] = [
+const SPECIAL: [&str; 29] = [
     "cipher of no bytes",
     "cipher from inside a word",
     "cipher past the last word of a table",
@@ -52,6 +55,17 @@ const SPECIAL: [&str; 18] = [
     "write, groups 4, just enough lent",
     "write, groups 4, one byte too few lent",
     "load where the head had another cipher",
+    "13 at position 0",
+    "13 inside a word",
+    "13 before 6 in cipher",
+    "13 before 7 in move",
+    "13 before 6 in move",
+    "13 before 8 in write",
+    "13 before 2 in recover",
+    "13 before 3 in recover",
+    "set up over a false word",
+    "load over a false word",
+    "spent of a false word",
 ];
 
 #[derive(Default)]

@@ -3,7 +3,7 @@
 use crate::ciphers::{self, Cipher};
 
 /// The first sixteen outputs that appendix A of the HC-128 paper prints for its three pairs of key and IV.
-const HC_128: [[u32; 16]; 3] = [
+pub const HC_128: [[u32; 16]; 3] = [
     [
         0x73150082, 0x3bfd03a0, 0xfb2fd77f, 0xaa63af0e, 0xde122fc6, 0xa7dc29b6, 0x62a68527, 0x8b75ec68, 0x9036db1e, 0x81896005,
         0x00ade078, 0x491fbf9a, 0x1cdc3013, 0x6c3d6e24, 0x90f664b2, 0x9cd57102,
@@ -25,7 +25,7 @@ const HC_128_A: [u32; 16] = [
 ];
 
 /// The first sixteen outputs that appendix A of the HC-256 paper prints for its three pairs of key and IV.
-const HC_256: [[u32; 16]; 3] = [
+pub const HC_256: [[u32; 16]; 3] = [
     [
         0x8589075b, 0x0df3f6d8, 0x2fc0c542, 0x5179b6a6, 0x3465f053, 0xf2891f80, 0x8b24744e, 0x18480b72, 0xec2792cd, 0xbf4dcfeb,
         0x7769bf8d, 0xfa14aee4, 0x7b4c50e8, 0xeaf3a9c8, 0xf506016c, 0x81697e32,

@@ -42,7 +42,7 @@ pub fn run(seed: u64, cipher: Cipher, tally: &mut Tally) -> Result<usize, String
     let key_and_iv = Ok((key.clone(), iv.clone()));
     let mut both = Both::new(FRESH, random.words(words), tally);
     both.set_up(words, cipher.code(), &key, &iv)?.map_err(|_| "set up refused")?;
-    let first_area = both.area.clone();
+    let (first_head, first_area) = (both.head, both.area.clone());
     let mut compared = 0;
 
     let mut passed = Vec::new();
@@ -55,34 +55,36 @@ pub fn run(seed: u64, cipher: Cipher, tally: &mut Tally) -> Result<usize, String
         }
         let checkpoint = write_exactly(&mut both, &mut random, words)?;
         compared += 1;
-        passed.push((both.head.position, checkpoint));
+        passed.push((both.head, checkpoint));
     }
 
     must(both.head.position == LIMIT && both.spent()? == Ok(LIMIT), "the position is the limit")?;
     must(both.cipher(words, &[0])? == Err(6), "a byte at the limit gets 6")?;
     must(both.recover(words, &vec![0; bytes], &vec![0; bytes])? == key_and_iv, "key and IV recovered at the limit")?;
-    let at_limit = passed.last().unwrap().1.clone();
-    let loaded = both.load(words, &at_limit)?.map_err(|_| "load refused")?;
+    let (head_at_limit, at_limit) = passed.last().unwrap();
+    let loaded = both.load(words, at_limit)?.map_err(|_| "load refused")?;
+    must(both.head == *head_at_limit, "the head loaded at the limit is the one before")?;
     let (key_words, iv_words) = (ciphers::words_of_bytes(&key), ciphers::words_of_bytes(&iv));
     must(loaded.0[..bytes / 4] == key_words && loaded.1[..bytes / 4] == iv_words, "key and IV loaded at the limit")?;
 
-    for (position, checkpoint) in passed.iter().rev() {
-        let left = both.head.position - position;
+    for (head, checkpoint) in passed.iter().rev() {
+        let left = both.head.position - head.position;
         if left > 2 {
             let part = random.below(left / 2) * 2 + 1;
             both.move_by(words, -(part as i64))?.map_err(|_| "move refused")?;
             write_exactly(&mut both, &mut random, words)?;
             compared += 1;
         }
-        let left = both.head.position - position;
+        let left = both.head.position - head.position;
         both.move_by(words, -(left as i64))?.map_err(|_| "move refused")?;
+        must(both.head == *head, "the head on the way back is that of the way there")?;
         let again = write_exactly(&mut both, &mut random, words)?;
         compared += 1;
         must(again == *checkpoint, "the checkpoint on the way back is that of the way there")?;
     }
     let left = both.head.position;
     both.move_by(words, -(left as i64))?.map_err(|_| "move refused")?;
-    must(both.area == first_area, "the tables at 0 are those of set-up")?;
+    must(both.head == first_head && both.area == first_area, "head and tables at 0 are those of set-up")?;
     must(both.recover(words, &vec![0; bytes], &vec![0; bytes])? == key_and_iv, "key and IV recovered at 0")?;
     Ok(compared)
 }

@@ -51,26 +51,26 @@ pub enum Known {
     Unknown,
 }
 
-pub fn by_code(code: u8) -> Known
+pub fn by_code(code: u32) -> Known
     ensures { λ r. ⌜ cipherIs r ≡ Numbers.byCode code ⌝ }
 {
     let first = ROWS[0];
-    if code == first.code {
+    if code == first.code as u32 {
         return Known::Is(Cipher::Hc128);
     }
     let second = ROWS[1];
-    if code == second.code {
+    if code == second.code as u32 {
         return Known::Is(Cipher::Hc256);
     }
     Known::Unknown
 }
 
 // The code of a cipher.
-pub fn code_of(cipher: Cipher) -> u8
+pub fn code_of(cipher: Cipher) -> u32
     ensures { λ r. ⌜ r ≡ Numbers.codeOf cipher ⌝ }
 {
     let row = row_of(cipher);
-    row.code
+    row.code as u32
 }
 
 // The words of a table, T.

@@ -1,15 +1,18 @@
 -- What the code's struct of a call's conditions says of their definition. Assumes nothing.
 use mathlib.Core.Path.{_≡_, sym, ap, _∙_}
 use mathlib.Core.Option.{some}
+use mathlib.Core.List.{List}
 use Prim.Native.Nat.{ℕ, _≤_}
 use borrow.Author.Tests.{eq-eqb, ne-eqb}
+use lib.ListN.{length}
 use Rattle.cipher.specs.declared.Cipher.{Cipher}
 use Rattle.cipher.specs.declared.Cipher.the-variants.{Hc128}
 use Rattle.cipher.specs.Numbers.{areaLength, keyLength, ivLength}
+use Rattle.steps.specs.Steps.{wordAt}
 use Rattle.conditions.specs.declared.Checked.{Checked}
 use Rattle.conditions.specs.Result.{Result, refused, accepted}
 use Rattle.conditions.specs.Limit.{limit}
-use Rattle.conditions.specs.Checks.{resultOf, checkedIs, Sized, Ready, HeadReady}
+use Rattle.conditions.specs.Checks.{resultOf, checkedIs, Sized, Ready, ReadyWithWord, HeadReady}
 
 -- ---- what a caller learns
 
@@ -39,6 +42,9 @@ module _ (r : Checked) (X : Result Cipher) (n : ℕ) (some : n ≡ 0 → ⊥) (e
   pub refused-ready : (position size : ℕ) → (checkedIs r ≡ X) × Ready r position size
   refused-ready position size = (refused-is, record { beside = beside; area-is = λ z. absurd (never z); within = λ z. absurd (never z) })
 
+  pub refused-word : (position word : ℕ) (area : List ℕ) → (checkedIs r ≡ X) × ReadyWithWord r position word area
+  refused-word position word area = (refused-is, record { is-ready = refused-ready position (length area) .1; word-is = λ z. absurd (never z) })
+
   pub refused-head : (position : ℕ) → (checkedIs r ≡ X) × HeadReady r position
   refused-head position = (refused-is, record { beside = beside; within = λ z. absurd (never z) })
 
@@ -55,6 +61,10 @@ module _ (r : Checked) (X : Result Cipher) (c : Cipher) (e : r ≡ record { refu
 
   pub passed-ready : (position size : ℕ) → size ≡ areaLength c → position ≤ limit → (checkedIs r ≡ X) × Ready r position size
   passed-ready position size s l = (passed-is, record { beside = none-beside; area-is = λ z. rw e s; within = λ z. l })
+
+  pub passed-word : (position word : ℕ) (area : List ℕ) → length area ≡ areaLength c → position ≤ limit → word ≡ wordAt c area position
+      → (checkedIs r ≡ X) × ReadyWithWord r position word area
+  passed-word position word area s l w = (passed-is, record { is-ready = passed-ready position (length area) s l .1; word-is = λ z. rw e w })
 
   pub passed-head : (position : ℕ) → position ≤ limit → (checkedIs r ≡ X) × HeadReady r position
   passed-head position l = (passed-is, record { beside = none-beside; within = λ z. l })

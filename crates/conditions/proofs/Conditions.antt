@@ -1,13 +1,16 @@
 -- The conditions of the calls, line by line: which refusal is the first, and what is accepted. Assumes nothing.
 use mathlib.Core.Path.{_≡_}
+use mathlib.Core.List.{List}
 use mathlib.Core.Option.{none, some}
 use Prim.Native.Nat.{ℕ, _≤_, _<_}
 use borrow.Author.Tests.{eq-eqb, ne-eqb, le-leb, lt-leb}
+use lib.ListN.{length}
 use Rattle.cipher.specs.declared.Cipher.{Cipher}
 use Rattle.cipher.specs.Numbers.{byCode, areaLength, keyLength, ivLength}
+use Rattle.steps.specs.Steps.{wordAt}
 use Rattle.conditions.specs.Result.{refused, accepted}
 use Rattle.conditions.specs.Limit.{limit}
-use Rattle.conditions.specs.Conditions.{setUpCheck, ready, headCheck}
+use Rattle.conditions.specs.Conditions.{setUpCheck, ready, readyWithWord, headCheck}
 
 -- ---- set up
 
@@ -52,6 +55,22 @@ module _ (code position size : ℕ) where
     pub ready-accepted : size ≡ areaLength c → position ≤ limit → ready code position size ≡ accepted c
     unfolding ready
     ready-accepted s l = rw (e, eq-eqb size (areaLength c) s, le-leb position limit l)
+
+-- ---- 1, 4, 5 and 13
+
+module _ (code position word : ℕ) (area : List ℕ) where
+  pub word-not-ready : (n : ℕ) → ready code position (length area) ≡ refused n → readyWithWord code position word area ≡ refused n
+  unfolding readyWithWord
+  word-not-ready n e = rw e
+
+  module _ (c : Cipher) (e : ready code position (length area) ≡ accepted c) where
+    pub word-false : (word ≡ wordAt c area position → ⊥) → readyWithWord code position word area ≡ refused 13
+    unfolding readyWithWord
+    word-false w = rw (e, ne-eqb word (wordAt c area position) w)
+
+    pub word-true : word ≡ wordAt c area position → readyWithWord code position word area ≡ accepted c
+    unfolding readyWithWord
+    word-true w = rw (e, eq-eqb word (wordAt c area position) w)
 
 -- ---- 1 and 5
 

@@ -9,6 +9,7 @@ use lib.ListN.{length, drop}
 use Rattle.cipher.specs.declared.Cipher.{Cipher}
 use Rattle.cipher.specs.declared.Cipher.the-variants.{Hc128}
 use Rattle.cipher.specs.Numbers.{areaLength, keyLength, ivLength}
+use Rattle.steps.specs.Steps.{wordAt}
 use Rattle.conditions.specs.declared.Checked.{Checked}
 use Rattle.conditions.specs.declared.Beginning.{Beginning}
 use Rattle.conditions.specs.declared.End.{End}
@@ -50,6 +51,11 @@ pub record Ready (r : Checked) (position size : ℕ) : Type 0 where
   pub beside : (r .refusal ≡ 0 → ⊥) → r .cipher ≡ Hc128
   pub area-is : r .refusal ≡ 0 → size ≡ areaLength (r .cipher)
   pub within : r .refusal ≡ 0 → position ≤ limit
+
+-- what the conditions 1, 4, 5 and 13 say besides of the word, where they hold
+pub record ReadyWithWord (r : Checked) (position word : ℕ) (area : List ℕ) : Type 0 where
+  pub is-ready : Ready r position (length area)
+  pub word-is : r .refusal ≡ 0 → word ≡ wordAt (r .cipher) area position
 
 -- the same of the conditions of a head alone
 pub record HeadReady (r : Checked) (position : ℕ) : Type 0 where

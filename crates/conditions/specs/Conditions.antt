@@ -1,6 +1,7 @@
 -- Document 01, 'Calls, with their refusals in order': the conditions that engine and account share, those of recover, and those of a head alone,
 -- which spent and checkpoint length have, as functions of code, position, the area's size and the other arguments. The engine reads them with the
--- head's code and position, the account of demand 3 with its own. Write's 8 is in the engine's Calls.
+-- head's code and position, the account of demand 3 with its own. Document 02 (a) puts 13 straight after 5, in the engine only: the account has no word
+-- and no tables. Write's 8 is in the engine's Calls.
 use mathlib.Core.List.{List, [], _∷_}
 use mathlib.Core.Option.{Option, none, some}
 use Prim.Native.Nat.{ℕ, _+_, _*_}
@@ -10,7 +11,7 @@ use lib.ListN.{length, drop}
 use Rattle.word.specs.Bytes.{words}
 use Rattle.cipher.specs.declared.Cipher.{Cipher}
 use Rattle.cipher.specs.Numbers.{byCode, areaLength, keyLength, ivLength}
-use Rattle.steps.specs.Steps.{stepsBack, stepsAt}
+use Rattle.steps.specs.Steps.{stepsBack, stepsAt, wordAt}
 use Rattle.setup.specs.SetUp as SetUp
 use Rattle.setup.specs.SetUp.{Undone, undo}
 use Rattle.varint.specs.Number.{Reading, is, ended, malformed, readNumber}
@@ -35,6 +36,13 @@ ready code position size = do
   refuse 5 unless leb position limit
   accepted c
 
+-- 1, 4, 5. 13: the head's word is not the one that the tables have at this position.
+unfoldable pub readyWithWord : (code position word : ℕ) (area : List ℕ) → Result Cipher
+readyWithWord code position word area = do
+  c ← ready code position (length area)
+  refuse 13 unless eqb word (wordAt c area position)
+  accepted c
+
 -- 1: head's code. 5: position over the limit.
 unfoldable pub headCheck : (code position : ℕ) → Result Cipher
 headCheck code position = do
@@ -42,10 +50,10 @@ headCheck code position = do
   refuse 5 unless leb position limit
   accepted c
 
--- **Cipher** 1, 4, 5. 6: the end would pass the limit.
-unfoldable pub cipherCheck : (code position size n : ℕ) → Result Cipher
-cipherCheck code position size n = do
-  c ← ready code position size
+-- **Cipher** 1, 4, 5 and in the engine 13, which are `begun`. 6: the end would pass the limit.
+unfoldable pub cipherCheck : (begun : Result Cipher) (position n : ℕ) → Result Cipher
+cipherCheck begun position n = do
+  c ← begun
   refuse 6 unless leb (position + n) limit
   accepted c
 
@@ -59,14 +67,14 @@ within (pos n) = do
 unfoldable pub endOf : ℕ → ℤ → Result ℕ
 endOf position distance = within (pos position +ℤ distance)
 
--- **Move** 1, 4, 5. 7, 6.
+-- **Move** 1, 4, 5 and in the engine 13, which are `begun`. 7, 6.
 pub record Course : Type 0 where
   pub cipher : Cipher
   pub end : ℕ
 
-unfoldable pub moveCheck : (code position size : ℕ) (distance : ℤ) → Result Course
-moveCheck code position size distance = do
-  c ← ready code position size
+unfoldable pub moveCheck : (begun : Result Cipher) (position : ℕ) (distance : ℤ) → Result Course
+moveCheck begun position distance = do
+  c ← begun
   end ← endOf position distance
   accepted (record { cipher = c; end = end })
 
@@ -84,10 +92,10 @@ abbrev pub foundOr12 : Undone → Result KeyAndIv
 foundOr12 SetUp.none = refused 12
 foundOr12 (SetUp.found key iv) = accepted (record { key = key; iv = iv })
 
--- **Recover** 1, 4, 5. 2, 3: buffer length is not the cipher's. 12.
-unfoldable pub recoverCheck : (code position : ℕ) (area : List ℕ) (keySize ivSize : ℕ) → Result KeyAndIv
-recoverCheck code position area keySize ivSize = do
-  c ← ready code position (length area)
+-- **Recover** 1, 4, 5, 13. 2, 3: buffer length is not the cipher's. 12.
+unfoldable pub recoverCheck : (code position word : ℕ) (area : List ℕ) (keySize ivSize : ℕ) → Result KeyAndIv
+recoverCheck code position word area keySize ivSize = do
+  c ← readyWithWord code position word area
   refuse 2 unless eqb keySize (keyLength c)
   refuse 3 unless eqb ivSize (ivLength c)
   foundOr12 (undoAt c area position)

@@ -1,5 +1,5 @@
-// Conditions of the calls, in document 01's order: those of set up; 1, 4 and 5, which cipher, move, write and recover begin with; 1 and 5, those of a
-// head alone; the end of a move, 7 and 6; those of load up to 11. Each gives the refusal number of the first that fails, or what the call then works
+// Conditions of the calls, in the documents' order: those of set up; 1, 4, 5 and 13, which cipher, move, write and recover begin with; 1 and 5, those of
+// a head alone; the end of a move, 7 and 6; those of load up to 11. Each gives the refusal number of the first that fails, or what the call then works
 // with. The other conditions are tested in the calls.
 ghost use mathlib.Core.Path.{_≡_};
 ghost use Prim.Native.Nat.{_≤_};
@@ -14,7 +14,7 @@ pub const LIMIT: u64 = 67_108_864;
 
 // The result of a call's conditions: the refusal number, 0 where they hold, and then the cipher.
 pub struct Checked {
-    pub refusal: u8,
+    pub refusal: u64,
     pub cipher: Cipher,
 }
 
@@ -27,7 +27,7 @@ fn passed(cipher: Cipher) -> Checked
     }
 }
 
-fn refused(refusal: u8) -> Checked
+fn refused(refusal: u64) -> Checked
     ensures { λ r. ⌜ r ≡ record { refusal = refusal; cipher = Cipher.Hc128 } ⌝ }
 {
     Checked {
@@ -37,7 +37,7 @@ fn refused(refusal: u8) -> Checked
 }
 
 // The conditions of set up.
-pub fn set_up_check(code: u8, key: usize, iv: usize, size: usize) -> Checked
+pub fn set_up_check(code: u32, key: usize, iv: usize, size: usize) -> Checked
     ensures { λ r. ⌜ (Checks.checkedIs r ≡ Conditions.setUpCheck code key iv size) × Checks.Sized r key iv size ⌝ }
 {
     let known = cipher::by_code(code);
@@ -56,8 +56,8 @@ pub fn set_up_check(code: u8, key: usize, iv: usize, size: usize) -> Checked
     passed(c)
 }
 
-// The conditions 1, 4 and 5, which cipher, move, write and recover begin with.
-pub fn ready(code: u8, position: u64, size: usize) -> Checked
+// The conditions 1, 4 and 5.
+fn ready(code: u32, position: u64, size: usize) -> Checked
     ensures { λ r. ⌜ (Checks.checkedIs r ≡ Conditions.ready code position size) × Checks.Ready r position size ⌝ }
 {
     let known = cipher::by_code(code);
@@ -73,8 +73,26 @@ pub fn ready(code: u8, position: u64, size: usize) -> Checked
     passed(c)
 }
 
+// The conditions 1, 4, 5 and 13, which cipher, move, write and recover begin with: the head's word is compared with the tables.
+pub fn ready_with_word(code: u32, position: u64, word: u32, area: &[u32]) -> Checked
+    ensures { λ r. ⌜
+        (Checks.checkedIs r ≡ Conditions.readyWithWord code position word (now (area .entry)))
+        × Checks.ReadyWithWord r position word (now (area .entry)) ⌝ }
+{
+    let checked = ready(code, position, area.len());
+    let refusal = checked.refusal;
+    if refusal != 0 {
+        return checked;
+    }
+    let c = checked.cipher;
+    if word != steps::word_at(c, area, position as usize) {
+        return refused(13);
+    }
+    passed(c)
+}
+
 // The conditions 1 and 5, those of a head alone.
-pub fn head_check(code: u8, position: u64) -> Checked
+pub fn head_check(code: u32, position: u64) -> Checked
     ensures { λ r. ⌜ (Checks.checkedIs r ≡ Conditions.headCheck code position) × Checks.HeadReady r position ⌝ }
 {
     let known = cipher::by_code(code);
@@ -105,7 +123,7 @@ fn split_distance(distance: i64) -> Distance
 
 // The end of a move: the refusal number, 0 where there is none, and then the position.
 pub struct End {
-    pub refusal: u8,
+    pub refusal: u64,
     pub position: u64,
 }
 
@@ -118,7 +136,7 @@ fn end_at(position: u64) -> End
     }
 }
 
-fn no_end(refusal: u8) -> End
+fn no_end(refusal: u64) -> End
     ensures { λ r. ⌜ r ≡ record { refusal = refusal; position = 0 } ⌝ }
 {
     End {
@@ -153,13 +171,13 @@ pub fn end_of(position: u64, distance: i64) -> End
 
 // What a checkpoint begins with, once every condition of load but the last holds: its cipher and position, and where its words begin.
 pub struct Beginning {
-    pub refusal: u8,
+    pub refusal: u64,
     pub cipher: Cipher,
     pub position: u64,
     pub next: usize,
 }
 
-fn no_beginning(refusal: u8) -> Beginning
+fn no_beginning(refusal: u64) -> Beginning
     ensures { λ r. ⌜ r ≡ record { refusal = refusal; cipher = Cipher.Hc128; position = 0; next = 0 } ⌝ }
 {
     Beginning {
@@ -177,7 +195,7 @@ pub fn load_check(string: &[u8], size: usize) -> Beginning
     if string.len() == 0 {
         return no_beginning(9);
     }
-    let known = cipher::by_code(string[0]);
+    let known = cipher::by_code(string[0] as u32);
     let Known::Is(c) = known else {
         return no_beginning(1);
     };
@@ -188,7 +206,7 @@ pub fn load_check(string: &[u8], size: usize) -> Beginning
     let read = reader::read_position(string);
     let refusal = read.refusal;
     if refusal != 0 {
-        return no_beginning(refusal);
+        return no_beginning(refusal as u64);
     }
     let stated = read.value;
     if LIMIT < stated {

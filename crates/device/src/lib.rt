@@ -12,11 +12,11 @@ use engine::answers::SpentAnswer;
 #[no_mangle]
 pub extern "C" fn hc_set_up(
     head: &mut Head,
-    code: u8,
+    code: u32,
     key: &[u8],
     iv: &[u8],
     area: &mut [u32],
-) -> u8
+) -> u64
     ensures { λ r. ⌜
         Answers.done r (now (head .exit)) (now (area .exit))
         ≡ Calls.setUpCall (now (head .entry)) code (now (key .entry)) (now (iv .entry)) (now (area .entry)) ⌝ }
@@ -28,7 +28,7 @@ pub extern "C" fn hc_set_up(
 
 // Cipher: each lent byte becomes its exclusive or with the keystream byte, and the position advances by their number.
 #[no_mangle]
-pub extern "C" fn hc_cipher(head: &mut Head, area: &mut [u32], bytes: &mut [u8]) -> u8
+pub extern "C" fn hc_cipher(head: &mut Head, area: &mut [u32], bytes: &mut [u8]) -> u64
     ensures { λ r. ⌜
         Answers.ciphered r (now (head .exit)) (now (area .exit)) (now (bytes .exit))
         ≡ Calls.cipherCall (now (head .entry)) (now (area .entry)) (now (bytes .entry)) ⌝ }
@@ -40,7 +40,7 @@ pub extern "C" fn hc_cipher(head: &mut Head, area: &mut [u32], bytes: &mut [u8])
 
 // Move: by a signed distance in bytes.
 #[no_mangle]
-pub extern "C" fn hc_move(head: &mut Head, area: &mut [u32], distance: i64) -> u8
+pub extern "C" fn hc_move(head: &mut Head, area: &mut [u32], distance: i64) -> u64
     ensures { λ r. ⌜
         Answers.done r (now (head .exit)) (now (area .exit))
         ≡ Calls.moveCall (now (head .entry)) (now (area .entry)) distance ⌝ }
@@ -52,7 +52,7 @@ pub extern "C" fn hc_move(head: &mut Head, area: &mut [u32], distance: i64) -> u
 
 // Checkpoint length: how many bytes the checkpoint of a cipher has at a position.
 #[no_mangle]
-pub extern "C" fn hc_checkpoint_length(code: u8, position: u64) -> LengthAnswer
+pub extern "C" fn hc_checkpoint_length(code: u32, position: u64) -> LengthAnswer
     ensures { λ r. ⌜ Answers.told r ≡ Calls.checkpointLengthCall code position ⌝ }
 {
     engine::checkpoint_length(code, position)
@@ -72,7 +72,7 @@ pub extern "C" fn hc_write(head: &mut Head, area: &[u32], lent: &mut [u8]) -> Le
 
 // Recover: the two buffers are filled with the key and the IV; the tables stay.
 #[no_mangle]
-pub extern "C" fn hc_recover(head: &mut Head, area: &[u32], key: &mut [u8], iv: &mut [u8]) -> u8
+pub extern "C" fn hc_recover(head: &mut Head, area: &[u32], key: &mut [u8], iv: &mut [u8]) -> u64
     ensures { λ r. ⌜
         Answers.recovered r (now (head .exit)) (now (area .entry)) (now (key .exit)) (now (iv .exit))
         ≡ Calls.recoverCall (now (head .entry)) (now (area .entry)) (now (key .entry)) (now (iv .entry)) ⌝ }

@@ -16,8 +16,8 @@ use Rattle.cipher.specs.Numbers.{codeOf, keyLength, ivLength}
 use Rattle.cipher.proofs.Sizes.{sizes}
 use Rattle.keys.specs.Key.{keyOf, ivOf}
 use Rattle.schedule.specs.Origin.{origin, isFilled}
-use Rattle.steps.specs.Steps.{moved}
-use Rattle.keystream.specs.Keystream.{tablesAfter, ciphered}
+use Rattle.steps.specs.Steps.{moved, lastOutput, wordAt}
+use Rattle.keystream.specs.Keystream.{CipheredFrom}
 use Rattle.keystream.proofs.Positions.{moved-on}
 use Rattle.setup.specs.SetUp as SetUp
 use Rattle.setup.specs.SetUp.{none, found}
@@ -28,8 +28,8 @@ use Rattle.engine.specs.declared.Head.{Head}
 use Rattle.conditions.specs.Result.{refused, accepted}
 use Rattle.conditions.specs.Limit.{limit}
 use Rattle.engine.specs.Head.{headAt}
-use Rattle.conditions.specs.Conditions.{setUpCheck, ready, headCheck, cipherCheck, endOf, moveCheck, undoAt, recoverCheck, loadFound, loadCheck}
-use Rattle.engine.specs.Calls.{engineOf, setUp, setUpCall, cipher, cipherCall, move, moveCall, write, writeCall, checkpointLength, checkpointLengthCall, recover, recoverCall, eightWords, load, loadCall, spent, spentCall}
+use Rattle.conditions.specs.Conditions.{setUpCheck, headCheck, cipherCheck, endOf, moveCheck, undoAt, recoverCheck, loadFound, loadCheck}
+use Rattle.engine.specs.Calls.{engineOf, headReady, setUp, setUpCall, cipher, cipherCall, move, moveCall, write, writeCall, checkpointLength, checkpointLengthCall, recover, recoverCall, eightWords, load, loadCall, spent, spentCall}
 
 module _ (h : Head) (code : ℕ) (key iv area : List ℕ) where
   pub set-up-refused : (n : ℕ) → setUpCheck code (length key) (length iv) (length area) ≡ refused n
@@ -38,54 +38,54 @@ module _ (h : Head) (code : ℕ) (key iv area : List ℕ) where
   set-up-refused n e = rw e
 
   pub set-up-done : (c : Cipher) (new : Head) (s : List ℕ) → setUpCheck code (length key) (length iv) (length area) ≡ accepted c
-      → new ≡ headAt code 0 → s ≡ SetUp.setUp c key iv
+      → new ≡ headAt code 0 0 → s ≡ SetUp.setUp c key iv
       → record { refusal = 0; value = engineOf new s } ≡ setUpCall h code key iv area
-  unfolding setUpCall setUp
+  unfolding setUpCall setUp lastOutput
   set-up-done c new s e p q = rw (e, p, q)
 
 module _ (h : Head) (area bytes : List ℕ) where
-  pub cipher-refused : (n : ℕ) → ready (h .code) (h .position) (length area) ≡ refused n
+  pub cipher-refused : (n : ℕ) → headReady h area ≡ refused n
       → record { refusal = n; value = record { engine = engineOf h area; bytes = bytes } } ≡ cipherCall h area bytes
   unfolding cipherCall cipher cipherCheck
   cipher-refused n e = rw e
 
-  module _ (c : Cipher) (e : ready (h .code) (h .position) (length area) ≡ accepted c) where
+  module _ (c : Cipher) (e : headReady h area ≡ accepted c) where
     pub cipher-past : limit < h .position + length bytes
         → record { refusal = 6; value = record { engine = engineOf h area; bytes = bytes } } ≡ cipherCall h area bytes
     unfolding cipherCall cipher cipherCheck
     cipher-past l = rw (e, lt-leb (h .position + length bytes) limit l)
 
-    pub cipher-done : (new : Head) (s bs : List ℕ) → h .position + length bytes ≤ limit → new ≡ headAt (h .code) (h .position + length bytes)
-        → s ≡ tablesAfter c area (h .position) (length bytes) → bs ≡ ciphered c area (h .position) bytes
+    pub cipher-done : (new : Head) (s bs : List ℕ) (word : ℕ) → h .position + length bytes ≤ limit
+        → new ≡ headAt (h .code) (h .position + length bytes) word → CipheredFrom c area (h .position) bytes s bs word
         → record { refusal = 0; value = record { engine = engineOf new s; bytes = bs } } ≡ cipherCall h area bytes
     unfolding cipherCall cipher cipherCheck
-    cipher-done new s bs l p q w =
-        rw (e, le-leb (h .position + length bytes) limit l, p, q, w, moved-on c area (h .position) (length bytes))
+    cipher-done new s bs word l p w =
+        rw (e, le-leb (h .position + length bytes) limit l, p, w .2, w .0, w .1, moved-on c area (h .position) (length bytes))
 
 module _ (h : Head) (area : List ℕ) (d : ℤ) where
-  pub move-refused : (n : ℕ) → ready (h .code) (h .position) (length area) ≡ refused n
+  pub move-refused : (n : ℕ) → headReady h area ≡ refused n
       → record { refusal = n; value = engineOf h area } ≡ moveCall h area d
   unfolding moveCall move moveCheck
   move-refused n e = rw e
 
-  module _ (c : Cipher) (e : ready (h .code) (h .position) (length area) ≡ accepted c) where
+  module _ (c : Cipher) (e : headReady h area ≡ accepted c) where
     pub move-unreached : (n : ℕ) → endOf (h .position) d ≡ refused n
         → record { refusal = n; value = engineOf h area } ≡ moveCall h area d
     unfolding moveCall move moveCheck
     move-unreached n x = rw (e, x)
 
-    pub move-done : (q : ℕ) (new : Head) (s : List ℕ) → endOf (h .position) d ≡ accepted q → new ≡ headAt (h .code) q
-        → s ≡ moved c area (h .position) q → record { refusal = 0; value = engineOf new s } ≡ moveCall h area d
+    pub move-done : (q : ℕ) (new : Head) (s : List ℕ) (word : ℕ) → endOf (h .position) d ≡ accepted q → new ≡ headAt (h .code) q word
+        → s ≡ moved c area (h .position) q → word ≡ wordAt c s q → record { refusal = 0; value = engineOf new s } ≡ moveCall h area d
     unfolding moveCall move moveCheck
-    move-done q new s x p w = rw (e, x, p, w)
+    move-done q new s word x p w v = rw (e, x, p, v, w)
 
 module _ (h : Head) (area lent : List ℕ) where
-  pub write-refused : (n : ℕ) → ready (h .code) (h .position) (length area) ≡ refused n
+  pub write-refused : (n : ℕ) → headReady h area ≡ refused n
       → record { refusal = n; value = record { engine = engineOf h area; length = 0; lent = lent } } ≡ writeCall h area lent
   unfolding writeCall write
   write-refused n e = rw e
 
-  module _ (c : Cipher) (e : ready (h .code) (h .position) (length area) ≡ accepted c) where
+  module _ (c : Cipher) (e : headReady h area ≡ accepted c) where
     pub write-small : length lent < lengthOf c (h .position)
         → record { refusal = 8; value = record { engine = engineOf h area; length = 0; lent = lent } } ≡ writeCall h area lent
     unfolding writeCall write
@@ -119,12 +119,12 @@ module _ (c : Cipher) (s : List ℕ) (position : ℕ) where
   found-at f = undo-filled c _ f
 
 module _ (h : Head) (area key iv : List ℕ) where
-  pub recover-refused : (n : ℕ) → ready (h .code) (h .position) (length area) ≡ refused n
+  pub recover-refused : (n : ℕ) → headReady h area ≡ refused n
       → record { refusal = n; value = record { engine = engineOf h area; key = key; iv = iv } } ≡ recoverCall h area key iv
   unfolding recoverCall recover recoverCheck
   recover-refused n e = rw e
 
-  module _ (c : Cipher) (e : ready (h .code) (h .position) (length area) ≡ accepted c) where
+  module _ (c : Cipher) (e : headReady h area ≡ accepted c) where
     pub recover-key : (length key ≡ keyLength c → ⊥)
         → record { refusal = 2; value = record { engine = engineOf h area; key = key; iv = iv } } ≡ recoverCall h area key iv
     unfolding recoverCall recover recoverCheck
@@ -189,13 +189,13 @@ module _ (h : Head) (string area : List ℕ) where
         ≡ loadCall h string area
     load-none f = load-refused 12 (e ∙ rw (none-at c (words rest) position f))
 
-    pub load-done : (new : Head) (s key iv : List ℕ) → isFilled c (filledAt c (words rest) position) ≡ true
-        → new ≡ headAt (codeOf c) position → s ≡ words rest
+    pub load-done : (new : Head) (s key iv : List ℕ) (word : ℕ) → isFilled c (filledAt c (words rest) position) ≡ true
+        → new ≡ headAt (codeOf c) position word → s ≡ words rest → word ≡ wordAt c s position
         → key ≡ eightWords (keyOf c (origin c (filledAt c (words rest) position)))
         → iv ≡ eightWords (ivOf c (origin c (filledAt c (words rest) position)))
         → record { refusal = 0; value = record { engine = engineOf new s; key = key; iv = iv } } ≡ loadCall h string area
     unfolding loadCall load
-    load-done new s key iv f p q k v = rw (e, found-at c (words rest) position f, p, q, k, v)
+    load-done new s key iv word f p q w k v = rw (e, found-at c (words rest) position f, p, w, q, k, v)
 
 module _ (h : Head) where
   pub spent-refused : (n : ℕ) → headCheck (h .code) (h .position) ≡ refused n

@@ -6,13 +6,14 @@ use lib.Dec.{leb}
 use lib.IntN.{ℤ}
 use lib.ListN.{length, replicate}
 use Rattle.word.specs.Bytes.{words}
+use Rattle.cipher.specs.declared.Cipher.{Cipher}
 use Rattle.cipher.specs.Numbers.{codeOf}
-use Rattle.steps.specs.Steps.{moved}
+use Rattle.steps.specs.Steps.{moved, wordAt}
 use Rattle.keystream.specs.Keystream.{ciphered}
 use Rattle.setup.specs.SetUp as SetUp
 use Rattle.checkpoint.specs.Checkpoint.{layout, lengthOf, putFirst}
 use Rattle.conditions.specs.Result.{Result, accepted, Outcome, outcome, _>>=_, _>>_, refuse_unless_}
-use Rattle.conditions.specs.Conditions.{setUpCheck, ready, headCheck, cipherCheck, moveCheck, recoverCheck, loadCheck}
+use Rattle.conditions.specs.Conditions.{setUpCheck, readyWithWord, headCheck, cipherCheck, moveCheck, recoverCheck, loadCheck}
 use Rattle.engine.specs.declared.Head.{Head}
 use Rattle.engine.specs.Head.{headAt}
 
@@ -24,11 +25,19 @@ pub record Engine : Type 0 where
 abbrev pub engineOf : Head → List ℕ → Engine
 engineOf head area = record { head = head; area = area }
 
+-- the area of a cipher at a position, with a head of this code that carries the word of that position: 'every call that changes the state keeps it true'
+abbrev pub engineAt : (code : ℕ) → Cipher → (position : ℕ) → List ℕ → Engine
+engineAt code c position area = engineOf (headAt code position (wordAt c area position)) area
+
+-- the conditions that cipher, move and write begin with, of a head and its area: 1, 4, 5, 13
+abbrev pub headReady : Head → List ℕ → Result Cipher
+headReady h area = readyWithWord (h .code) (h .position) (h .word) area
+
 -- **Set up** takes cipher code, key, IV and area; the position becomes 0.
 unfoldable pub setUp : (code : ℕ) (key iv area : List ℕ) → Result Engine
 setUp code key iv area = do
   c ← setUpCheck code (length key) (length iv) (length area)
-  accepted (engineOf (headAt code 0) (SetUp.setUp c key iv))
+  accepted (engineAt code c 0 (SetUp.setUp c key iv))
 
 unfoldable pub setUpCall : (head : Head) (code : ℕ) (key iv area : List ℕ) → Outcome Engine
 setUpCall h code key iv area = outcome (engineOf h area) (setUp code key iv area)
@@ -40,11 +49,11 @@ pub record Ciphered : Type 0 where
 -- **Cipher** replaces each lent byte by its exclusive or with the keystream byte and advances by their number.
 unfoldable pub cipher : (head : Head) (area bytes : List ℕ) → Result Ciphered
 cipher h area bytes = do
-  c ← cipherCheck (h .code) (h .position) (length area) (length bytes)
+  c ← cipherCheck (headReady h area) (h .position) (length bytes)
   let end = h .position + length bytes
   accepted
       (record {
-        engine = engineOf (headAt (h .code) end) (moved c area (h .position) end);
+        engine = engineAt (h .code) c end (moved c area (h .position) end);
         bytes = ciphered c area (h .position) bytes;
       })
 
@@ -54,8 +63,8 @@ cipherCall h area bytes = outcome (record { engine = engineOf h area; bytes = by
 -- **Move** takes a signed 64-bit distance in bytes.
 unfoldable pub move : (head : Head) (area : List ℕ) (distance : ℤ) → Result Engine
 move h area distance = do
-  m ← moveCheck (h .code) (h .position) (length area) distance
-  accepted (engineOf (headAt (h .code) (m .end)) (moved (m .cipher) area (h .position) (m .end)))
+  m ← moveCheck (headReady h area) (h .position) distance
+  accepted (engineAt (h .code) (m .cipher) (m .end) (moved (m .cipher) area (h .position) (m .end)))
 
 unfoldable pub moveCall : (head : Head) (area : List ℕ) (distance : ℤ) → Outcome Engine
 moveCall h area distance = outcome (engineOf h area) (move h area distance)
@@ -65,10 +74,11 @@ pub record Written : Type 0 where
   pub length : ℕ
   pub lent : List ℕ
 
--- **Write** puts the checkpoint at the start of the lent bytes and returns its length; later bytes stay. 1, 4, 5. 8: fewer lent bytes than its length.
+-- **Write** puts the checkpoint at the start of the lent bytes and returns its length; later bytes stay. 1, 4, 5, 13. 8: fewer lent bytes than its
+-- length.
 unfoldable pub write : (head : Head) (area lent : List ℕ) → Result Written
 write h area lent = do
-  c ← ready (h .code) (h .position) (length area)
+  c ← headReady h area
   let n = lengthOf c (h .position)
   refuse 8 unless leb n (length lent)
   accepted (record { engine = engineOf h area; length = n; lent = putFirst (layout c (h .position) area) lent })
@@ -93,7 +103,7 @@ pub record Recovered : Type 0 where
 -- **Recover** fills key and IV buffers; the tables stay.
 unfoldable pub recover : (head : Head) (area key iv : List ℕ) → Result Recovered
 recover h area key iv = do
-  pair ← recoverCheck (h .code) (h .position) area (length key) (length iv)
+  pair ← recoverCheck (h .code) (h .position) (h .word) area (length key) (length iv)
   accepted (record { engine = engineOf h area; key = pair .key; iv = pair .iv })
 
 unfoldable pub recoverCall : (head : Head) (area key iv : List ℕ) → Outcome Recovered
@@ -114,7 +124,7 @@ load string area = do
   l ← loadCheck string (length area)
   accepted
       (record {
-        engine = engineOf (headAt (codeOf (l .cipher)) (l .position)) (l .area);
+        engine = engineAt (codeOf (l .cipher)) (l .cipher) (l .position) (l .area);
         key = eightWords (l .key);
         iv = eightWords (l .iv);
       })

@@ -16,15 +16,16 @@ use answers::SpentAnswer;
 use answers::SpentDone;
 use answers::WriteDone;
 
-// Document 01's head: cipher code and position. Heads are made by the constructors below.
+// The head: cipher code, the word we are inside, and position, in an order that needs no padding. Heads are made by the constructors below.
 #[repr(C)]
 pub struct Head {
-    pub code: u8,
+    pub code: u32,
+    pub word: u32,
     pub position: u64,
 }
 
 // What a write hands back that is refused, or not made since a call before it is refused.
-pub fn not_written(refusal: u8, head: Head) -> WriteDone
+pub fn not_written(refusal: u64, head: Head) -> WriteDone
     ensures { λ r. ⌜ r ≡ record { answer = record { refusal = refusal; length = 0 }; head = head } ⌝ }
 {
     WriteDone {
@@ -37,7 +38,7 @@ pub fn not_written(refusal: u8, head: Head) -> WriteDone
 }
 
 // What a refused load hands back.
-fn not_loaded(refusal: u8, kept: Head) -> LoadDone
+fn not_loaded(refusal: u64, kept: Head) -> LoadDone
     ensures { λ r. ⌜ r ≡ record { answer = record { refusal = refusal; key = replicate 8 0; iv = replicate 8 0 }; head = kept } ⌝ }
 {
     let zeros = [0u32; 8];
@@ -52,7 +53,7 @@ fn not_loaded(refusal: u8, kept: Head) -> LoadDone
 }
 
 // What a refused spent hands back.
-fn not_counted(refusal: u8, head: Head) -> SpentDone
+fn not_counted(refusal: u64, head: Head) -> SpentDone
     ensures { λ r. ⌜ r ≡ record { answer = record { refusal = refusal; count = 0 }; head = head } ⌝ }
 {
     SpentDone {
@@ -65,7 +66,7 @@ fn not_counted(refusal: u8, head: Head) -> SpentDone
 }
 
 // The length of a checkpoint of a cipher code at a position: what write takes there at least, and gives.
-pub fn checkpoint_length(code: u8, position: u64) -> LengthAnswer
+pub fn checkpoint_length(code: u32, position: u64) -> LengthAnswer
     ensures { λ r. ⌜ Answers.told r ≡ Calls.checkpointLengthCall code position ⌝ }
 {
     let checked = conditions::head_check(code, position);
@@ -87,12 +88,13 @@ impl Head {
     // The stream limit in bytes.
     pub const LIMIT: u64 = conditions::LIMIT;
 
-    // A head of a cipher code at a position.
-    pub fn at(code: u8, position: u64) -> Self
-        ensures { λ r. ⌜ r ≡ Heads.headAt code position ⌝ }
+    // A head of a cipher code at a position, with a word.
+    pub fn at(code: u32, position: u64, word: u32) -> Self
+        ensures { λ r. ⌜ r ≡ Heads.headAt code position word ⌝ }
     {
         Head {
             code: code,
+            word: word,
             position: position,
         }
     }
@@ -101,11 +103,11 @@ impl Head {
     pub fn fresh() -> Self
         ensures { λ r. ⌜ r ≡ Heads.freshHead ⌝ }
     {
-        Head::at(0, 0)
+        Head::at(0, 0, 0)
     }
 
     // Sets up an area with a key and an IV; the position becomes 0.
-    pub fn set_up(self, code: u8, key: &[u8], iv: &[u8], area: &mut [u32]) -> Done
+    pub fn set_up(self, code: u32, key: &[u8], iv: &[u8], area: &mut [u32]) -> Done
         ensures { λ r. ⌜
             Answers.done (r .refusal) (r .head) (now (area .exit))
             ≡ Calls.setUpCall self code (now (key .entry)) (now (iv .entry)) (now (area .entry)) ⌝ }
@@ -122,7 +124,7 @@ impl Head {
         setup::set_up(c, key, iv, area);
         Done {
             refusal: 0,
-            head: Head::at(code, 0),
+            head: Head::at(code, 0, 0),
         }
     }
 
@@ -134,7 +136,8 @@ impl Head {
     {
         let code = self.code;
         let position = self.position;
-        let checked = conditions::ready(code, position, area.len());
+        let word = self.word;
+        let checked = conditions::ready_with_word(code, position, word, area);
         let refusal = checked.refusal;
         if refusal != 0 {
             return Done {
@@ -150,10 +153,10 @@ impl Head {
             };
         }
         let c = checked.cipher;
-        keystream::xor_keystream(c, area, position as usize, bytes);
+        let last = keystream::xor_keystream(c, area, position as usize, word, bytes);
         Done {
             refusal: 0,
-            head: Head::at(code, position + n),
+            head: Head::at(code, position + n, last),
         }
     }
 
@@ -165,7 +168,8 @@ impl Head {
     {
         let code = self.code;
         let position = self.position;
-        let checked = conditions::ready(code, position, area.len());
+        let word = self.word;
+        let checked = conditions::ready_with_word(code, position, word, area);
         let refusal = checked.refusal;
         if refusal != 0 {
             return Done {
@@ -184,9 +188,10 @@ impl Head {
         let c = checked.cipher;
         let to = end.position;
         steps::move_tables(c, area, position as usize, to as usize);
+        let moved = steps::word_at(c, area, to as usize);
         Done {
             refusal: 0,
-            head: Head::at(code, to),
+            head: Head::at(code, to, moved),
         }
     }
 
@@ -198,7 +203,8 @@ impl Head {
     {
         let code = self.code;
         let position = self.position;
-        let checked = conditions::ready(code, position, area.len());
+        let word = self.word;
+        let checked = conditions::ready_with_word(code, position, word, area);
         let refusal = checked.refusal;
         if refusal != 0 {
             return not_written(refusal, self);
@@ -244,13 +250,14 @@ impl Head {
         let code = cipher::code_of(c);
         let key = recovery::eight_words(w, 0, n);
         let iv = recovery::eight_words(w, 8, m);
+        let word = steps::word_at(c, area, position as usize);
         LoadDone {
             answer: LoadAnswer {
                 refusal: 0,
                 key: key,
                 iv: iv,
             },
-            head: Head::at(code, position),
+            head: Head::at(code, position, word),
         }
     }
 
@@ -262,7 +269,8 @@ impl Head {
     {
         let code = self.code;
         let position = self.position;
-        let checked = conditions::ready(code, position, area.len());
+        let word = self.word;
+        let checked = conditions::ready_with_word(code, position, word, area);
         let refusal = checked.refusal;
         if refusal != 0 {
             return Done {

@@ -1,7 +1,11 @@
 // Words, bytes and heads, filled and compared.
 ghost use Prim.Native.Nat.{_≤_};
+use cipher::Known;
 use engine::Head;
 use engine::answers::Done;
+
+// A word for heads where none is true, or where it is not looked at.
+pub const ANY: u32 = 0x0badcafe;
 
 // Fills words: each is the last one plus the stride.
 pub fn fill_words(words: &mut [u32], first: u32, stride: u32) {
@@ -53,6 +57,16 @@ pub fn has_bytes(bytes: &[u8], first: u8, stride: u8) -> bool {
     true
 }
 
+// Copies words, as far as both slices go.
+pub fn copy_words(from: &[u32], to: &mut [u32]) {
+    let n = least(from.len(), to.len());
+    let mut i = 0;
+    while i < n {
+        to[i] = from[i];
+        i += 1;
+    }
+}
+
 // Changes a byte and gives what it was; where there is none, the new one.
 pub fn change(bytes: &mut [u8], at: usize, byte: u8) -> u8 {
     if at >= bytes.len() {
@@ -89,7 +103,7 @@ pub fn same_words(a: &[u32], b: &[u32]) -> bool {
 }
 
 // A byte as a word.
-fn wide(x: u8) -> u32 {
+pub fn wide(x: u8) -> u32 {
     x as u32
 }
 
@@ -131,26 +145,56 @@ pub fn least(a: usize, b: usize) -> usize
     if a < b { a } else { b }
 }
 
-// Whether a head has a code and a position.
-pub fn is_head(head: Head, code: u8, position: u64) -> bool {
-    (head.code == code) & (head.position == position)
+// The word that an area has at a position; any word where there is none: no such cipher, another length, or a position over the limit.
+pub fn word_on(code: u32, position: u64, area: &[u32]) -> u32 {
+    let known = cipher::by_code(code);
+    let Known::Is(c) = known else {
+        return ANY;
+    };
+    if area.len() != cipher::area_words(c) {
+        return ANY;
+    }
+    if Head::LIMIT < position {
+        return ANY;
+    }
+    steps::word_at(c, area, position as usize)
 }
 
-// Whether a call gave a refusal number, 0 where it is accepted, and a head of this code and position.
-pub fn gave(done: Done, refusal: u8, code: u8, position: u64) -> bool {
-    let head = done.head;
-    (done.refusal == refusal) & is_head(head, code, position)
+// The head of a code and a position, with the word that an area has there.
+pub fn head_on(code: u32, position: u64, area: &[u32]) -> Head {
+    Head::at(code, position, word_on(code, position, area))
+}
+
+// A head with these bits of its word changed, none where they are 0.
+pub fn flipped(head: Head, bits: u32) -> Head {
+    Head::at(head.code, head.position, head.word ^ bits)
+}
+
+// The head of a code and a position, with the word that an area has there but for these bits.
+pub fn flipped_on(code: u32, position: u64, bits: u32, area: &[u32]) -> Head {
+    flipped(head_on(code, position, area), bits)
+}
+
+// Whether two heads are the same in code, position and word.
+pub fn is_head(head: Head, other: Head) -> bool {
+    (head.code == other.code) & (head.position == other.position) & (head.word == other.word)
+}
+
+// Whether a call gave a refusal number, 0 where it is accepted, and this head.
+pub fn gave(done: Done, refusal: u64, head: Head) -> bool {
+    let next = done.head;
+    (done.refusal == refusal) & is_head(next, head)
 }
 
 // Whether spent by a head gives a refusal number and a count, and leaves the head.
-pub fn has_spent(code: u8, position: u64, refusal: u8, count: u64) -> bool {
-    let done = Head::at(code, position).spent();
-    let head = done.head;
+pub fn has_spent(head: Head, refusal: u64, count: u64) -> bool {
+    let done = head.spent();
+    let kept = done.head;
     let answer = done.answer;
-    (answer.refusal == refusal) & (answer.count == count) & is_head(head, code, position)
+    (answer.refusal == refusal) & (answer.count == count) & is_head(kept, head)
 }
 
-// Whether a call was accepted and gave a head of this code and position, by which spent is the position.
-pub fn accepted(done: Done, code: u8, position: u64) -> bool {
-    gave(done, 0, code, position) & has_spent(code, position, 0, position)
+// Whether a call was accepted and gave this head, by which spent is the position.
+pub fn accepted(done: Done, head: Head) -> bool {
+    gave(done, 0, head) & has_spent(head, 0, head.position)
 }

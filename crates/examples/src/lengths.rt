@@ -3,8 +3,8 @@ ghost use Prim.Native.Nat.{_≤_};
 use crate::line;
 
 // The length that is given for a code at a position, and the refusal number; no length where it is refused.
-fn case(code: u8, position: u64, refusal: u8, length: usize) {
-    line::byte(b"checkpoint length code ", code);
+fn case(code: u32, position: u64, refusal: u64, length: usize) {
+    line::word(b"checkpoint length code ", code);
     line::number(b" at ", position);
     line::size(b" is ", length);
     let answer = engine::checkpoint_length(code, position);
@@ -15,20 +15,24 @@ fn case(code: u8, position: u64, refusal: u8, length: usize) {
 }
 
 // A code that is neither cipher's gets 1, also where the position is over the limit.
-fn unknown_code(code: u8) {
+fn unknown_code(code: u32) {
     case(code, 0, 1, 0);
     case(code, 67_108_865, 1, 0);
 }
 
-// The smallest code, the one after HC-256's, and the largest.
+// The smallest code and the one after HC-256's; codes whose low bits are a cipher's; the largest byte and the largest code.
 pub fn unknown_codes() {
     unknown_code(0);
     unknown_code(3);
     unknown_code(255);
+    unknown_code(257);
+    unknown_code(65_537);
+    unknown_code(16_777_218);
+    unknown_code(u32::MAX);
 }
 
 // The lengths of a cipher's checkpoints, with the bytes of its tables.
-pub fn of_cipher(code: u8, tables: usize)
+pub fn of_cipher(code: u32, tables: usize)
     requires { ⌜ tables ≤ 8192 ⌝ }
 {
     case(code, 0, 0, tables + 2);

@@ -9,7 +9,7 @@ use Rattle.cipher.specs.declared.Cipher.{Cipher}
 use Rattle.cipher.specs.declared.Cipher.the-variants.{Hc128, Hc256}
 use Rattle.cipher.specs.Numbers.{areaLength}
 use Rattle.functions.specs.Functions.{table, startB, rotation, g128, g256, h128, h256}
-use Rattle.functions.specs.ByCipher.{feedbackOf, filterOf, put}
+use Rattle.functions.specs.ByCipher.{feedbackOf, hOf, filterOf, put}
 
 module _ {c : Cipher} (s : List ℕ) (p : Bool) where
   pub feedback-128 : (back : Bool) (w x y z : ℕ) {r d : ℕ} → c ≡ Hc128 → r ≡ put back w d → d ≡ g128 (rotation p) x y z
@@ -29,6 +29,15 @@ module _ {c : Cipher} (s : List ℕ) (p : Bool) where
   pub filter-256 : (x : ℕ) {h : ℕ} → c ≡ Hc256 → h ≡ h256 (table s (startB 1024 p)) x → h ≡ filterOf c p s x
   unfolding filterOf
   filter-256 x e f = rw e f
+
+module _ {c : Cipher} where
+  pub h-of-128 : (B : ℕ → ℕ) (x : ℕ) {h : ℕ} → c ≡ Hc128 → h ≡ h128 B x → h ≡ hOf c B x
+  unfolding hOf
+  h-of-128 B x e f = rw e f
+
+  pub h-of-256 : (B : ℕ → ℕ) (x : ℕ) {h : ℕ} → c ≡ Hc256 → h ≡ h256 B x → h ≡ hOf c B x
+  unfolding hOf
+  h-of-256 B x e f = rw e f
 
 -- the words of the area, where the cipher is known
 pub words-128 : {c : Cipher} {n : ℕ} → c ≡ Hc128 → n ≡ areaLength c → n ≡ 1024

@@ -12,6 +12,11 @@ unfoldable pub feedbackOf : Cipher → Bool → List ℕ → ℕ → ℕ → ℕ
 feedbackOf Hc128 p s x y z = g128 (rotation p) x y z
 feedbackOf Hc256 p s x y z = y ⊞ g256 (table s (startB 1024 p)) x z
 
+-- h of the cipher, where B is the table that is looked up
+unfoldable pub hOf : Cipher → (ℕ → ℕ) → ℕ → ℕ
+hOf Hc128 B x = h128 B x
+hOf Hc256 B x = h256 B x
+
 -- h(x)
 unfoldable pub filterOf : Cipher → Bool → List ℕ → ℕ → ℕ
 filterOf Hc128 p s x = h128 (table s (startB 512 p)) x

@@ -1,9 +1,9 @@
 // The functions g and h of the two ciphers, and with them the feedback and h(A[j-12]) by cipher, where P changes or Q.
 ghost use mathlib.Core.Path.{_≡_};
-ghost use Prim.Native.Nat.{_≤_};
+ghost use Prim.Native.Nat.{_+_, _≤_};
 ghost use lib.ListN.{length};
 ghost use Rattle.word.specs.Word.{R, L};
-ghost use Rattle.cipher.specs.Numbers.{areaLength};
+ghost use Rattle.cipher.specs.Numbers.{tableLength, areaLength};
 ghost use Rattle.functions.specs.Functions as Functions;
 ghost use Rattle.functions.specs.Functions.{table};
 ghost use Rattle.functions.specs.ByCipher as ByCipher;
@@ -42,7 +42,7 @@ fn g_256(area: &[u32], b: usize, x: u32, y: u32) -> u32
 
 // h of HC-128, where the table that is looked up begins at b.
 fn h_128(area: &[u32], b: usize, x: u32) -> u32
-    requires { ⌜ (length (now area) ≡ 1024) × (b ≤ 512) ⌝ }
+    requires { ⌜ b + 512 ≤ length (now area) ⌝ }
     ensures { λ r. ⌜ r ≡ Functions.h128 (table (now (area .entry)) b) x ⌝ }
 {
     word::sum(
@@ -53,7 +53,7 @@ fn h_128(area: &[u32], b: usize, x: u32) -> u32
 
 // h of HC-256, where the table that is looked up begins at b.
 fn h_256(area: &[u32], b: usize, x: u32) -> u32
-    requires { ⌜ (length (now area) ≡ 2048) × (b ≤ 1024) ⌝ }
+    requires { ⌜ b + 1024 ≤ length (now area) ⌝ }
     ensures { λ r. ⌜ r ≡ Functions.h256 (table (now (area .entry)) b) x ⌝ }
 {
     word::sum(
@@ -124,5 +124,16 @@ pub fn filter(cipher: Cipher, area: &[u32], p: bool, x: u32) -> u32
         } else {
             h_256(area, 0, x)
         },
+    }
+}
+
+// h(x), where the words lent begin with the table that is looked up.
+pub fn h(cipher: Cipher, words: &[u32], x: u32) -> u32
+    requires { ⌜ tableLength cipher ≤ length (now words) ⌝ }
+    ensures { λ r. ⌜ r ≡ ByCipher.hOf cipher (table (now (words .entry)) 0) x ⌝ }
+{
+    match cipher {
+        Cipher::Hc128 => h_128(words, 0, x),
+        Cipher::Hc256 => h_256(words, 0, x),
     }
 }

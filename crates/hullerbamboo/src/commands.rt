@@ -74,7 +74,7 @@ fn read_position(i: usize) -> Position {
 }
 
 // The code of the cipher that the third word names, 0 where it names none, which is said.
-fn code() -> u8 {
+fn code() -> u32 {
     let mut word = io::buffer();
     let n = os::arg(2, &mut word);
     let code = lab::cipher_code(&word[..n]);
@@ -85,7 +85,7 @@ fn code() -> u8 {
 }
 
 // Says that the engine refused the file that a word names.
-fn refuse(i: usize, refusal: u8) {
+fn refuse(i: usize, refusal: u64) {
     let mut word = io::buffer();
     let n = os::arg(i, &mut word);
     say::refused(&word[..n], refusal);
@@ -103,14 +103,14 @@ struct Job {
 }
 
 // Says that a key or an IV, in the file that a word names, has not the cipher's length.
-fn refuse_length(i: usize, refusal: u8, c: Cipher) {
+fn refuse_length(i: usize, refusal: u64, c: Cipher) {
     let mut word = io::buffer();
     let n = os::arg(i, &mut word);
     say::refused_length(&word[..n], refusal, cipher::key_bytes(c));
 }
 
 // Says that the engine refused a job: the key, the IV or the position.
-fn refuse_job(job: Job, refusal: u8) {
+fn refuse_job(job: Job, refusal: u64) {
     let position = job.position;
     let c = job.cipher;
     if refusal == 2 {
@@ -451,13 +451,18 @@ fn put_name(c: Cipher) {
     }
 }
 
+// A byte as a cipher code.
+fn wide_code(byte: u8) -> u32 {
+    byte as u32
+}
+
 // The cipher that the first byte of a checkpoint names.
 fn put_cipher(string: &[u8]) {
     if string.len() == 0 {
         io::write_all(STDOUT_FILENO, b"cipher: none\n");
         return;
     }
-    let known = cipher::by_code(string[0]);
+    let known = cipher::by_code(wide_code(string[0]));
     match known {
         Known::Is(c) => put_name(c),
         Known::Unknown => {

@@ -46,7 +46,7 @@ pub fn wrong(what: &[u8], text: &[u8]) {
 }
 
 // What a refusal's number means.
-fn put_meaning(fd: i32, refusal: u8) {
+fn put_meaning(fd: i32, refusal: u64) {
     match refusal {
         1 => {
             io::write_all(fd, b"the cipher code is neither 1 nor 2");
@@ -87,36 +87,42 @@ fn put_meaning(fd: i32, refusal: u8) {
                 b"the bytes after the position are not as many as the tables",
             );
         }
-        _ => {
+        12 => {
             io::write_all(fd, b"no key and IV have these tables at this position");
+        }
+        _ => {
+            io::write_all(
+                fd,
+                b"the word of the head is not the one that the tables have at this position",
+            );
         }
     }
 }
 
 // A refusal's number and meaning.
-pub fn put_refusal(fd: i32, refusal: u8) {
+pub fn put_refusal(fd: i32, refusal: u64) {
     io::write_all(fd, b"refusal ");
-    io::print_decimal(fd, refusal as u64);
+    io::print_decimal(fd, refusal);
     io::write_all(fd, b": ");
     put_meaning(fd, refusal);
 }
 
 // Says that the engine refused what a file or a word holds.
-pub fn refused(what: &[u8], refusal: u8) {
+pub fn refused(what: &[u8], refusal: u64) {
     begin(what);
     put_refusal(STDERR_FILENO, refusal);
     io::write_all(STDERR_FILENO, b".\n");
 }
 
 // Says that the engine refused a position.
-pub fn refused_position(position: u64, refusal: u8) {
+pub fn refused_position(position: u64, refusal: u64) {
     let mut text = [0u8; 20];
     let n = io::decimal(position, &mut text);
     refused(&text[..n], refusal);
 }
 
 // Says that a log passed the limit after some of it was written.
-pub fn refused_after(refusal: u8, written: u64) {
+pub fn refused_after(refusal: u64, written: u64) {
     begin(b"standard input");
     put_refusal(STDERR_FILENO, refusal);
     io::write_all(STDERR_FILENO, b", after ");
@@ -125,7 +131,7 @@ pub fn refused_after(refusal: u8, written: u64) {
 }
 
 // Says that a key or an IV has a length that is not its cipher's: the refusal is 2 for a key and 3 for an IV.
-pub fn refused_length(what: &[u8], refusal: u8, size: usize) {
+pub fn refused_length(what: &[u8], refusal: u64, size: usize) {
     begin(what);
     if refusal == 2 {
         io::write_all(STDERR_FILENO, b"refusal 2: a key of this cipher has ");

@@ -2,7 +2,7 @@
 use mathlib.Core.Path.{_≡_, refl, sym, ap, _∙_}
 use mathlib.Core.Logic.{⊎-elim}
 use mathlib.Core.List.{List}
-use Prim.Native.Nat.{ℕ, suc, _+_, _-_, _*_, _/_, _%_, _≤_, _<_}
+use Prim.Native.Nat.{ℕ, suc, _+_, _-_, _*_, _/_, _%_, _≤_, _<_, min}
 use native.Mathlib.Nat.{zero-add}
 use native.Mathlib.Omega.{arith}
 use lib.ListN.{length}
@@ -12,8 +12,10 @@ use Rattle.laws.proofs.Lists.{below-or-not}
 use Rattle.word.specs.Bytes.{byte}
 use Rattle.cipher.specs.declared.Cipher.{Cipher}
 use Rattle.tables.specs.Step.{step, output}
-use Rattle.steps.specs.Steps.{steps, stepsAt}
-use Rattle.keystream.specs.Keystream.{tablesAfter, ciphered}
+use Rattle.steps.specs.Steps.{steps, stepsAt, lastOutput, wordAt}
+use Rattle.steps.proofs.Moved.{steps-up}
+use Rattle.steps.proofs.Words.{last-taken}
+use Rattle.keystream.specs.Keystream.{tablesAfter, ciphered, CipheredFrom}
 use Rattle.keystream.specs.Stores.{xorPart, xorWord, inWord}
 use Rattle.keystream.proofs.Positions.{tables-after}
 use Rattle.keystream.proofs.Xored.{Xored, xored-none, xored-part, xored-words}
@@ -22,10 +24,16 @@ use Rattle.keystream.proofs.Ciphered.{keyFrom, key-from, all-done}
 -- ---- of l bytes from position p, a end the word that p is inside, 4 n are whole words and t begin a word
 
 module _ (p l : ℕ) where
+  pub none-in-word : p % 4 ≡ 0 → inWord p l ≡ 0
+  none-in-word e = omega arith
+
+  pub some-in-word : (p % 4 ≡ 0 → ⊥) → min (4 - p % 4) l ≡ inWord p l
+  some-in-word h = omega arith
+
   in-word-le : inWord p l ≤ l
   in-word-le = omega arith
 
-  in-word : (k : ℕ) → k < inWord p l → (p % 4 + k < 4) × (suc (p / 4) - stepsAt p ≡ 0)
+  in-word : (k : ℕ) → k < inWord p l → (p % 4 + k < 4) × (suc (p / 4) - stepsAt p ≡ 0) × (stepsAt p ≡ p / 4 + 1)
   in-word k h = omega arith
 
   -- after the end of a word a word begins, unless no bytes are left
@@ -37,6 +45,9 @@ module _ (p l : ℕ) where
 
 steps-of-sum : (t m : ℕ) → stepsAt (t + 4 * m) ≡ m + stepsAt t
 steps-of-sum t m = omega arith
+
+sum-left : (q n x y : ℕ) → n + x ≡ y - q → q ≤ y → q + n + x ≡ y
+sum-left q n x y e l = omega arith
 
 less-left : (q n x : ℕ) → q + n + x - q ≡ n + x
 less-left q n x = omega arith
@@ -69,16 +80,17 @@ module _ (p l a n t : ℕ) (ea : a ≡ inWord p l) (en : n ≡ (l - a) / 4) (et 
 
 -- ---- the bytes and the tables
 
-module _ (c : Cipher) (s bs : List ℕ) (p a n t : ℕ)
+module _ (c : Cipher) (s bs : List ℕ) (p a n t w : ℕ) (ew : w ≡ wordAt c s p)
     (ea : a ≡ inWord p (length bs)) (en : n ≡ (length bs - a) / 4) (et : t ≡ length bs - (a + 4 * n)) where
-  end-of-word : Xored (keyFrom c s p) bs (xorPart 0 a (output c s (p / 4)) (p % 4) bs) a
+  end-of-word : Xored (keyFrom c s p) bs (xorPart 0 a w (p % 4) bs) a
   end-of-word =
       rw zero-add at
-      (xored-part (keyFrom c s p) bs bs 0 a (output c s (p / 4)) (p % 4)
+      (xored-part (keyFrom c s p) bs bs 0 a w (p % 4)
       (rw (zero-add a, ea) (in-word-le p (length bs)))
       (λ k b.
       let h = in-word p (length bs) k (rw ea at b) in
-      sym (ap (λ (z : ℕ). byte (p % 4 + k) (output c (steps c s (stepsAt p) z) (p / 4))) (h .1) ∙ ap (λ (z : List ℕ). byte (p % 4 + k) (output c z (p / 4))) (forward-none (step c) s (stepsAt p)))
+      ap (byte (p % 4 + k)) (ew ∙ last-taken c s (p / 4) (stepsAt p) (h .2))
+      ∙ sym (ap (λ (z : ℕ). byte (p % 4 + k) (output c (steps c s (stepsAt p) z) (p / 4))) (h .1) ∙ ap (λ (z : List ℕ). byte (p % 4 + k) (output c z (p / 4))) (forward-none (step c) s (stepsAt p)))
       ∙ key-from c s p (0 + k) (p / 4) (p % 4 + k) (omega arith) (h .0))
       (xored-none (keyFrom c s p) bs))
 
@@ -110,7 +122,7 @@ module _ (c : Cipher) (s bs : List ℕ) (p a n t : ℕ)
       v)
 
   -- the call's bytes, part by part
-  whole-bytes : (b₁ b₂ b₃ : List ℕ) → b₁ ≡ xorPart 0 a (output c s (p / 4)) (p % 4) bs → b₂ ≡ forward (xorWord c s (stepsAt p) a) b₁ 0 n
+  whole-bytes : (b₁ b₂ b₃ : List ℕ) → b₁ ≡ xorPart 0 a w (p % 4) bs → b₂ ≡ forward (xorWord c s (stepsAt p) a) b₁ 0 n
       → b₃ ≡ xorPart (a + 4 * n) t (output c (step c (steps c s (stepsAt p) n) (stepsAt p + n)) (stepsAt p + n)) 0 b₂ → b₃ ≡ ciphered c s p bs
   whole-bytes b₁ b₂ b₃ e₁ e₂ e₃ = e₃ ∙ rw (e₂, e₁) (all-done c s p bs _ (beginning-of-word _ (whole-words _ end-of-word)))
 
@@ -121,31 +133,47 @@ module _ (c : Cipher) (s bs : List ℕ) (p a n t : ℕ)
       ∙ ap (steps c s (stepsAt p)) (steps-taken p (length bs) a n t ea en et)
       ∙ sym (tables-after c s p (length bs))
 
--- what the calls of `xor_keystream` say of the area s and the bytes bs at entry, of what they leave, and of a, i and n
-pub record Parts (c : Cipher) (s bs : List ℕ) (p a i n : ℕ) (b₁ s₂ b₂ s₃ b₃ : List ℕ) : Type 0 where
+  -- the steps that the tables have taken then
+  whole-steps : stepsAt p + n + stepsAt t ≡ stepsAt (p + length bs)
+  whole-steps = sum-left (stepsAt p) n (stepsAt t) _ (steps-taken p (length bs) a n t ea en et) (steps-up p (length bs))
+
+-- what the calls of `xor_keystream` say of the area s, the word w and the bytes bs at entry, of what they leave, and of a, i, n and t
+pub record Parts (c : Cipher) (s bs : List ℕ) (p w a i n t : ℕ) (b₁ s₂ b₂ s₃ b₃ : List ℕ) (last : ℕ) : Type 0 where
+  pub word : w ≡ wordAt c s p
   pub ended : a ≡ inWord p (length bs)
-  pub ended-bytes : b₁ ≡ xorPart 0 (inWord p (length bs)) (output c s (p / 4)) (p % 4) bs
+  pub ended-bytes : b₁ ≡ xorPart 0 (inWord p (length bs)) w (p % 4) bs
   pub ended-sized : length b₁ ≡ length bs
   pub first : i ≡ stepsAt p
   pub count : n ≡ (length b₁ - a) / 4
+  pub rest : t ≡ (length b₁ - a) % 4
   pub words-tables : s₂ ≡ steps c s i n
   pub words-bytes : b₂ ≡ forward (xorWord c s i a) b₁ 0 n
   pub words-sized : length b₂ ≡ length b₁
-  pub begun-tables : s₃ ≡ steps c s₂ (i + n) (stepsAt (length b₂ - (a + 4 * n)))
-  pub begun-bytes : b₃ ≡ xorPart (a + 4 * n) (length b₂ - (a + 4 * n)) (output c (step c s₂ (i + n)) (i + n)) 0 b₂
+  pub begun-tables : s₃ ≡ steps c s₂ (i + n) (stepsAt t)
+  pub begun-bytes : b₃ ≡ xorPart (length b₂ - t) t (output c (step c s₂ (i + n)) (i + n)) 0 b₂
+  pub begun-word : last ≡ lastOutput c s₃ (i + n + stepsAt t)
 
-module _ {c : Cipher} {s bs : List ℕ} {p a i n : ℕ} {b₁ s₂ b₂ s₃ b₃ : List ℕ} (v : Parts c s bs p a i n b₁ s₂ b₂ s₃ b₃) where
+rest-of : (l a n t : ℕ) → a ≤ l → n ≡ (l - a) / 4 → t ≡ (l - a) % 4 → (t ≡ l - (a + 4 * n)) × (l - t ≡ a + 4 * n)
+rest-of l a n t h e f = omega arith
+
+module _ {c : Cipher} {s bs : List ℕ} {p w a i n t : ℕ} {b₁ s₂ b₂ s₃ b₃ : List ℕ} {last : ℕ} (v : Parts c s bs p w a i n t b₁ s₂ b₂ s₃ b₃ last) where
   count : n ≡ (length bs - a) / 4
   count = v .count ∙ ap (λ (z : ℕ). (z - a) / 4) (v .ended-sized)
 
-  rest : length b₂ - (a + 4 * n) ≡ length bs - (a + 4 * n)
-  rest = ap (λ (z : ℕ). z - (a + 4 * n)) (v .words-sized ∙ v .ended-sized)
+  rest : (t ≡ length bs - (a + 4 * n)) × (length bs - t ≡ a + 4 * n)
+  rest =
+      rest-of (length bs) a n t (rw (v .ended) (in-word-le p (length bs))) count
+      (v .rest ∙ ap (λ (z : ℕ). (z - a) % 4) (v .ended-sized))
 
-  pub whole : (s₃ ≡ tablesAfter c s p (length bs)) × (b₃ ≡ ciphered c s p bs)
+  begins-at : length b₂ - t ≡ a + 4 * n
+  begins-at = ap (λ (z : ℕ). z - t) (v .words-sized ∙ v .ended-sized) ∙ rest .1
+
+  pub whole : CipheredFrom c s p bs s₃ b₃ last
   whole = (
-    v .begun-tables ∙ rw (v .words-tables, rest, v .first) (whole-tables c s bs p a n _ (v .ended) count refl),
-    whole-bytes c s bs p a n _ (v .ended) count refl b₁ b₂ b₃
-        (v .ended-bytes ∙ ap (λ (z : ℕ). xorPart 0 z (output c s (p / 4)) (p % 4) bs) (sym (v .ended)))
+    v .begun-tables ∙ rw (v .words-tables, v .first) (whole-tables c s bs p a n t w (v .word) (v .ended) count (rest .0)),
+    whole-bytes c s bs p a n t w (v .word) (v .ended) count (rest .0) b₁ b₂ b₃
+        (v .ended-bytes ∙ ap (λ (z : ℕ). xorPart 0 z w (p % 4) bs) (sym (v .ended)))
         (rw (v .first) at (v .words-bytes))
-        (v .begun-bytes ∙ rw (v .words-tables, rest, v .first)),
+        (v .begun-bytes ∙ rw (v .words-tables, begins-at, v .first)),
+    v .begun-word ∙ ap (lastOutput c s₃) (rw (v .first) (whole-steps c s bs p a n t w (v .word) (v .ended) count (rest .0))),
   )

@@ -10,7 +10,7 @@ use Rattle.word.specs.Word.{_⊕_}
 use Rattle.word.specs.Bytes.{byte}
 use Rattle.cipher.specs.declared.Cipher.{Cipher}
 use Rattle.tables.specs.Step.{step, output}
-use Rattle.steps.specs.Steps.{steps}
+use Rattle.steps.specs.Steps.{steps, wordAt}
 
 -- keystream byte p: byte p mod 4 of the output of step p/4, where s are the tables after that step
 abbrev pub keyByte : Cipher → List ℕ → ℕ → ℕ
@@ -33,6 +33,7 @@ unfoldable pub ciphered : Cipher → List ℕ → ℕ → List ℕ → List ℕ
 ciphered c s p [] = []
 ciphered c s p (b ∷ bs) = (b ⊕ keyByte c (tablesNext c s p) p) ∷ ciphered c (tablesNext c s p) (suc p) bs
 
--- the tables and the bytes that a cipher call at position p leaves, where s are the tables at p and bs the bytes lent
-abbrev pub CipheredFrom : Cipher → List ℕ → ℕ → List ℕ → List ℕ → List ℕ → Type 0
-CipheredFrom c s p bs stepped done = (stepped ≡ tablesAfter c s p (length bs)) × (done ≡ ciphered c s p bs)
+-- the tables, the bytes and the word that a cipher call at position p leaves, where s are the tables at p and bs the bytes lent
+abbrev pub CipheredFrom : Cipher → List ℕ → ℕ → List ℕ → List ℕ → List ℕ → ℕ → Type 0
+CipheredFrom c s p bs stepped done word =
+    (stepped ≡ tablesAfter c s p (length bs)) × (done ≡ ciphered c s p bs) × (word ≡ wordAt c stepped (p + length bs))

@@ -8,7 +8,7 @@ use Rattle.word.specs.Word.{_⊕_}
 use Rattle.word.specs.Bytes.{byte}
 use Rattle.cipher.specs.declared.Cipher.{Cipher}
 use Rattle.tables.specs.Step.{step, output}
-use Rattle.steps.specs.Steps.{steps, stepsAt}
+use Rattle.steps.specs.Steps.{steps, stepsAt, lastOutput}
 
 -- the byte at place start + k with byte from + k of the word w
 abbrev pub xorByte : ℕ → ℕ → ℕ → List ℕ → ℕ → List ℕ
@@ -26,17 +26,19 @@ xorWord c s i start bs k = xorPart (start + 4 * k) 4 (output c (steps c s i (k +
 abbrev pub inWord : ℕ → ℕ → ℕ
 inWord p n = min ((4 - p % 4) % 4) n
 
--- ---- what the parts of a cipher call leave of the area s and the bytes bs
+-- ---- what the parts of a cipher call leave of the area s and the bytes bs, with the last output
 
--- the r bytes that end the word that position p is inside
-abbrev pub Finished : Cipher → List ℕ → List ℕ → ℕ → ℕ → List ℕ → Type 0
-Finished c s bs p r done = (r ≡ inWord p (length bs)) × (done ≡ xorPart 0 (inWord p (length bs)) (output c s (p / 4)) (p % 4) bs)
+-- the r bytes that end the word w, which position p is inside
+abbrev pub Finished : List ℕ → ℕ → ℕ → ℕ → List ℕ → Type 0
+Finished bs p w r done = (r ≡ inWord p (length bs)) × (done ≡ xorPart 0 (inWord p (length bs)) w (p % 4) bs)
 
 -- n whole words from place start on, with the outputs of the steps from step i on
-abbrev pub Worded : Cipher → List ℕ → List ℕ → ℕ → ℕ → ℕ → List ℕ → List ℕ → Type 0
-Worded c s bs i start n stepped done = (stepped ≡ steps c s i n) × (done ≡ forward (xorWord c s i start) bs 0 n)
+abbrev pub Worded : Cipher → List ℕ → List ℕ → ℕ → ℕ → ℕ → List ℕ → List ℕ → ℕ → Type 0
+Worded c s bs i start n stepped done last =
+    (stepped ≡ steps c s i n) × (done ≡ forward (xorWord c s i start) bs 0 n) × (last ≡ lastOutput c stepped (i + n))
 
--- the bytes from place start on, fewer than four, with the first bytes of the output of step i
-abbrev pub Begun : Cipher → List ℕ → List ℕ → ℕ → ℕ → List ℕ → List ℕ → Type 0
-Begun c s bs i start stepped done =
-    (stepped ≡ steps c s i (stepsAt (length bs - start))) × (done ≡ xorPart start (length bs - start) (output c (step c s i) i) 0 bs)
+-- the last n bytes, fewer than four, with the first bytes of the output of step i
+abbrev pub Begun : Cipher → List ℕ → List ℕ → ℕ → ℕ → List ℕ → List ℕ → ℕ → Type 0
+Begun c s bs i n stepped done last =
+    (stepped ≡ steps c s i (stepsAt n)) × (done ≡ xorPart (length bs - n) n (output c (step c s i) i) 0 bs)
+    × (last ≡ lastOutput c stepped (i + stepsAt n))

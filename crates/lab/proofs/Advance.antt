@@ -8,14 +8,15 @@ use lib.ListN.{length}
 use Rattle.word.specs.Bytes.{words}
 use Rattle.varint.specs.Number.{Reading, is, ended, malformed, readNumber}
 use Rattle.cipher.specs.Numbers.{byCode, areaLength}
+use Rattle.steps.specs.Steps.{wordAt}
 use Rattle.checkpoint.specs.Checkpoint.{mostGroups}
 use Rattle.setup.specs.SetUp.{Undone, none, found}
 use Rattle.engine.specs.declared.Head.{Head}
 use Rattle.engine.specs.declared.answers.Done.{Done}
 use Rattle.conditions.specs.Result.{Result, refused, accepted, Outcome, outcome}
 use Rattle.conditions.specs.Limit.{limit}
-use Rattle.conditions.specs.Conditions.{ready, cipherCheck, undoAt, foundOr12, positionRead, loadCheck}
-use Rattle.engine.specs.Calls.{Ciphered, cipher, cipherCall}
+use Rattle.conditions.specs.Conditions.{ready, readyWithWord, cipherCheck, undoAt, foundOr12, positionRead, loadCheck}
+use Rattle.engine.specs.Calls.{headReady, Ciphered, cipher, cipherCall}
 use Rattle.engine.specs.Answers as Answers
 use Rattle.theorems.proofs.Results.{no-refusal, accepted-one, after-line, after-without, after-unless}
 use Rattle.theorems.proofs.Conditions.{cipher-shows}
@@ -36,11 +37,18 @@ ready-not-0 code position size e =
     after-unless 5 (leb position limit) _ r₂ (other 0 5 (λ z. omega arith)) λ e₃ r₃.
     no-refusal r₃
 
-cipher-not-0 : (code position size n : ℕ) → cipherCheck code position size n ≡ refused 0 → ⊥
+word-not-0 : (code position word : ℕ) (area : List ℕ) → readyWithWord code position word area ≡ refused 0 → ⊥
+unfolding readyWithWord
+word-not-0 code position word area e =
+    after-line (ready code position (length area)) _ e (λ m q s. ready-not-0 code position (length area) (s ∙ ap refused (number-of q))) λ c e₁ r₁.
+    after-unless 13 (eqb word (wordAt c area position)) _ r₁ (other 0 13 (λ z. omega arith)) λ e₂ r₂.
+    no-refusal r₂
+
+cipher-not-0 : (h : Head) (area : List ℕ) (n : ℕ) → cipherCheck (headReady h area) (h .position) n ≡ refused 0 → ⊥
 unfolding cipherCheck
-cipher-not-0 code position size n e =
-    after-line (ready code position size) _ e (λ m q s. ready-not-0 code position size (s ∙ ap refused (number-of q))) λ c e₁ r₁.
-    after-unless 6 (leb (position + n) limit) _ r₁ (other 0 6 (λ z. omega arith)) λ e₂ r₂.
+cipher-not-0 h area n e =
+    after-line (headReady h area) _ e (λ m q s. word-not-0 (h .code) (h .position) (h .word) area (s ∙ ap refused (number-of q))) λ c e₁ r₁.
+    after-unless 6 (leb (h .position + n) limit) _ r₁ (other 0 6 (λ z. omega arith)) λ e₂ r₂.
     no-refusal r₂
 
 found-not-0 : (u : Undone) → foundOr12 u ≡ refused 0 → ⊥
@@ -72,12 +80,12 @@ module _ (h : Head) (area bytes : List ℕ) where
       → (outcome old x .value .engine .head .position ≡ h .position + length bytes) × (h .position + length bytes ≤ limit)
   unfolding cipher
   ends (refused n) e old z =
-      absurd (after-line (cipherCheck (h .code) (h .position) (length area) (length bytes)) _ e
-      (λ m q s. cipher-not-0 (h .code) (h .position) (length area) (length bytes) (s ∙ ap refused (number-of q ∙ z))) λ c e₁ r₁. no-refusal r₁)
+      absurd (after-line (cipherCheck (headReady h area) (h .position) (length bytes)) _ e
+      (λ m q s. cipher-not-0 h area (length bytes) (s ∙ ap refused (number-of q ∙ z))) λ c e₁ r₁. no-refusal r₁)
   ends (accepted r) e old z =
-      after-line (cipherCheck (h .code) (h .position) (length area) (length bytes)) _ e (λ _. no-refusal) λ c e₁ r₁. (
+      after-line (cipherCheck (headReady h area) (h .position) (length bytes)) _ e (λ _. no-refusal) λ c e₁ r₁. (
         ap (λ (y : Ciphered). y .engine .head .position) (sym (accepted-one refl r₁)),
-        cipher-shows (h .code) (h .position) (length area) (length bytes) c e₁ .1,
+        cipher-shows _ (h .position) (length bytes) c e₁ .1,
       )
 
   pub advances : (r : Done) (s bs : List ℕ) → Answers.ciphered (r .refusal) (r .head) s bs ≡ cipherCall h area bytes → Advance (h .position) (length bytes) r

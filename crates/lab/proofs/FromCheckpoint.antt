@@ -18,7 +18,7 @@ use Rattle.cipher.specs.Numbers.{codeOf, areaLength, keyLength, ivLength}
 use Rattle.cipher.proofs.Codes.{code-of}
 use Rattle.tables.specs.Area.{Area}
 use Rattle.keys.specs.Key.{Pair}
-use Rattle.steps.specs.Steps.{moved}
+use Rattle.steps.specs.Steps.{moved, lastOutput, wordAt}
 use Rattle.keystream.specs.Keystream.{ciphered, tablesNext, tablesAfter, keyByte}
 use Rattle.keystream.proofs.Ciphered.{length-ciphered}
 use Rattle.keystream.proofs.Positions.{moved-on}
@@ -32,15 +32,14 @@ use Rattle.conditions.specs.Result.{Result, refused, accepted, Outcome}
 use Rattle.conditions.specs.Limit.{limit}
 use Rattle.engine.specs.Head.{freshHead, headAt}
 use Rattle.conditions.specs.Conditions.{undoAt, foundOr12, Contents, setUpCheck, cipherCheck, loadCheck}
-use Rattle.engine.specs.Calls.{Engine, setUp, setUpCall, cipher, cipherCall, move, moveCall, writeCall, recover, recoverCall, load, loadCall}
-use Rattle.conditions.proofs.Conditions.{ready-accepted}
+use Rattle.engine.specs.Calls.{Engine, engineAt, headReady, setUp, setUpCall, cipher, cipherCall, move, moveCall, writeCall, recover, recoverCall, load, loadCall}
 use Rattle.engine.proofs.Calls.{write-done}
-use Rattle.theorems.specs.Account.{Four, IsFour, atPosition, Checkpoint, tablesOf, checkpointOf}
+use Rattle.theorems.specs.Account.{Four, IsFour, atPosition, Checkpoint, tablesOf, engineOfFour, checkpointOf}
 use Rattle.theorems.proofs.Results.{no-refusal, accepted-one, after-line}
-use Rattle.theorems.proofs.Conditions.{accepted-only, load-passed, move-accepted, recover-finds}
+use Rattle.theorems.proofs.Conditions.{accepted-only, word-shows, word-accepted, load-passed, move-accepted, recover-finds}
 use Rattle.theorems.proofs.Checkpoints.{loadedOf, load-checkpoint}
 use Rattle.theorems.proofs.Twice.{ciphered-twice}
-use Rattle.theorems.proofs.Tables.{moved-area, four-sized, four-ready, four-moved, undo-finds}
+use Rattle.theorems.proofs.Tables.{moved-area, four-sized, four-true, four-moved, undo-finds}
 use Rattle.lab.specs.Tasks.{cipherOf, loadFresh, moveTo, loadAndMove, openCheckpoint, setUpAt, thenWrite, writeAt, rewriteAt, recoverFrom}
 use Rattle.lab.specs.FromCheckpoint.{cipherAfter, streamed, checkpointPut, FromCheckpoint}
 use Rattle.lab.proofs.Advance.{load-not-0}
@@ -50,7 +49,7 @@ use Rattle.lab.proofs.Tasks.{ends-at}
 
 -- what an accepted load leaves
 engineIn : Contents → Engine
-engineIn l = record { head = headAt (codeOf (l .cipher)) (l .position); area = l .area }
+engineIn l = engineAt (codeOf (l .cipher)) (l .cipher) (l .position) (l .area)
 
 loaded-accepted : (string area : List ℕ) (l : Contents) → loadCheck string (length area) ≡ accepted l
     → loadFresh string area ≡ record { refusal = 0; value = engineIn l }
@@ -76,14 +75,15 @@ load-leaves string size l e =
 -- ── the move back ──
 
 moved-back : (c : Cipher) (p : ℕ) (s : List ℕ) → length s ≡ areaLength c → p ≤ limit
-    → moveCall (headAt (codeOf c) p) s (negℤ (pos p))
-    ≡ record { refusal = 0; value = record { head = headAt (codeOf c) 0; area = moved c s p 0 } }
+    → moveCall (headAt (codeOf c) p (wordAt c s p)) s (negℤ (pos p))
+    ≡ record { refusal = 0; value = engineAt (codeOf c) c 0 (moved c s p 0) }
 unfolding moveCall move
-moved-back c p s z l = rw (move-accepted c p (length s) (negℤ (pos p)) 0 z l (+ℤ-invr (pos p)) (omega arith))
+moved-back c p s z l =
+    rw (move-accepted _ c p (negℤ (pos p)) 0 (word-accepted c p (wordAt c s p) s z l refl) (+ℤ-invr (pos p)) (omega arith))
 
 opened-accepted : (string area : List ℕ) (l : Contents) → loadCheck string (length area) ≡ accepted l
     → openCheckpoint string area
-    ≡ record { refusal = 0; value = record { head = headAt (codeOf (l .cipher)) 0; area = moved (l .cipher) (l .area) (l .position) 0 } }
+    ≡ record { refusal = 0; value = engineAt (codeOf (l .cipher)) (l .cipher) 0 (moved (l .cipher) (l .area) (l .position) 0) }
 unfolding openCheckpoint engineIn
 opened-accepted string area l e =
     let h = load-leaves string (length area) l e in
@@ -121,14 +121,14 @@ at-0 c k v = refl
 
 opens : (string area : List ℕ) (f : Four) → Checkpoint string f → length area ≡ areaLength (f .cipher)
     → openCheckpoint string area
-    ≡ record { refusal = 0; value = record { head = headAt (codeOf (f .cipher)) 0; area = SetUp.setUp (f .cipher) (f .key) (f .iv) } }
+    ≡ record { refusal = 0; value = engineAt (codeOf (f .cipher)) (f .cipher) 0 (SetUp.setUp (f .cipher) (f .key) (f .iv)) }
 opens string area f h z =
     opened-accepted string area (loadedOf f) (load-checkpoint string (length area) f h z)
-    ∙ ap (λ (s : List ℕ). record { refusal = 0; value = record { head = headAt (codeOf (f .cipher)) 0; area = s } })
+    ∙ ap (λ (s : List ℕ). record { refusal = 0; value = engineAt (codeOf (f .cipher)) (f .cipher) 0 s })
     (four-moved f 0 (h .is-four) ∙ at-0 (f .cipher) (f .key) (f .iv))
 
 set-up-is : (c : Cipher) (k v area : List ℕ) → Pair c k v → length area ≡ areaLength c
-    → setUpCall freshHead (codeOf c) k v area ≡ record { refusal = 0; value = record { head = headAt (codeOf c) 0; area = SetUp.setUp c k v } }
+    → setUpCall freshHead (codeOf c) k v area ≡ record { refusal = 0; value = engineAt (codeOf c) c 0 (SetUp.setUp c k v) }
 unfolding setUpCall setUp setUpCheck
 set-up-is c k v area pair z =
     rw (code-of c, eq-eqb (length k) (keyLength c) (pair .key-long), eq-eqb (length v) (ivLength c) (pair .iv-long), eq-eqb (length area) (areaLength c) z)
@@ -141,7 +141,7 @@ as-set-up string area f h z =
 -- ── deciphering ──
 
 -- a cipher call on the bytes that one from the same head and tables left gives them back
-twice : (h : Head) (area bytes : List ℕ) (x : Result Cipher) → cipherCheck (h .code) (h .position) (length area) (length bytes) ≡ x
+twice : (h : Head) (area bytes : List ℕ) (x : Result Cipher) → cipherCheck (headReady h area) (h .position) (length bytes) ≡ x
     → cipherCall h area (cipherCall h area bytes .value .bytes) .value .bytes ≡ bytes
 unfolding cipherCall cipher
 twice h area bytes (refused n) e = rw (e, e)
@@ -170,20 +170,20 @@ ciphered-parts c s p (x ∷ a) b =
     (ap (λ (l : List ℕ). (x ⊕ keyByte c (tablesNext c s p) p) ∷ l) (ciphered-parts c (tablesNext c s p) (suc p) a b))
 
 cipher-call-is : (c : Cipher) (p : ℕ) (s bytes : List ℕ) → length s ≡ areaLength c → p + length bytes ≤ limit
-    → cipherCall (headAt (codeOf c) p) s bytes
+    → cipherCall (headAt (codeOf c) p (wordAt c s p)) s bytes
     ≡ record {
       refusal = 0;
       value = record {
-        engine = record { head = headAt (codeOf c) (p + length bytes); area = moved c s p (p + length bytes) };
+        engine = engineAt (codeOf c) c (p + length bytes) (moved c s p (p + length bytes));
         bytes = ciphered c s p bytes;
       };
     }
 unfolding cipherCall cipher cipherCheck
 cipher-call-is c p s bytes z l =
-    rw (ready-accepted (codeOf c) p (length s) c (code-of c) z (omega arith), le-leb (p + length bytes) limit l)
+    rw (word-accepted c p (wordAt c s p) s z (omega arith) refl, le-leb (p + length bytes) limit l)
 
 streamed-is : (c : Cipher) (p : ℕ) (s : List ℕ) (parts : List (List ℕ)) → Area c s → p + length (flatten parts) ≤ limit
-    → streamed (record { head = headAt (codeOf c) p; area = s }) parts ≡ ciphered c s p (flatten parts)
+    → streamed (engineAt (codeOf c) c p s) parts ≡ ciphered c s p (flatten parts)
 unfolding streamed flatten
 streamed-is c p s [] area l = nothing c s p
 streamed-is c p s (part ∷ parts) area l =
@@ -217,7 +217,7 @@ recovers : (string area key iv : List ℕ) (f : Four) → Checkpoint string f �
     ≡ record {
       refusal = 0;
       value = record {
-        engine = record { head = headAt (codeOf (f .cipher)) (f .position); area = tablesOf f };
+        engine = engineOfFour f;
         key = f .key;
         iv = f .iv;
       };
@@ -225,10 +225,9 @@ recovers : (string area key iv : List ℕ) (f : Four) → Checkpoint string f �
 unfolding recoverFrom recoverCall recover engineIn
 recovers string area key iv f h z kn vn =
     let c = f .cipher in
-    let sized = four-sized f (tablesOf f) (h .is-four) refl in
     let finds =
-    recover-finds (codeOf c) (f .position) (tablesOf f) (length key) (length iv) c
-    (record { code-is = refl; sized = sized; within-limit = h .is-four .within })
+    recover-finds (codeOf c) (f .position) _ (tablesOf f) (length key) (length iv) c
+    (word-shows (codeOf c) (f .position) _ (tablesOf f) c (four-true f (tablesOf f) _ (h .is-four) refl refl))
     kn
     vn in
     rw (loaded-accepted string area (loadedOf f) (load-checkpoint string (length area) f h z), finds, undo-four f (h .is-four))
@@ -237,26 +236,23 @@ recovers string area key iv f h z kn vn =
 
 -- from the engine of a four to its engine at another position
 moved-four : (f : Four) (q : ℕ) → IsFour f → q ≤ limit
-    → moveTo q (record { head = headAt (codeOf (f .cipher)) (f .position); area = tablesOf f })
-    ≡ record { refusal = 0; value = record { head = headAt (codeOf (f .cipher)) q; area = tablesOf (atPosition f q) } }
+    → moveTo q (engineOfFour f) ≡ record { refusal = 0; value = engineOfFour (atPosition f q) }
 unfolding moveTo moveCall move
 moved-four f q h l =
-    let c = f .cipher in
     let p = f .position in
-    let sized = four-sized f (tablesOf f) h refl in
-    rw (move-accepted c p (length (tablesOf f)) (pos q -ℤ pos p) q sized (h .within) (ends-at p q) l, four-moved f q h)
+    rw (move-accepted _ (f .cipher) p (pos q -ℤ pos p) q (four-true f (tablesOf f) _ h refl refl) (ends-at p q) l, four-moved f q h)
 
 write-four : (f : Four) (lent : List ℕ) → IsFour f → lengthOf (f .cipher) (f .position) ≤ length lent
-    → writeCall (headAt (codeOf (f .cipher)) (f .position)) (tablesOf f) lent
+    → writeCall (engineOfFour f .head) (tablesOf f) lent
     ≡ checkpointPut f lent
 unfolding checkpointOf
 write-four f lent h l =
     let sized = four-sized f (tablesOf f) h refl in
     let n = layout-length (f .cipher) (f .position) (tablesOf f) sized in
-    sym (write-done _ (tablesOf f) lent (f .cipher) (four-ready f (tablesOf f) h refl) _ _ n (omega arith) refl)
+    sym (write-done _ (tablesOf f) lent (f .cipher) (four-true f (tablesOf f) _ h refl refl) _ _ n (omega arith) refl)
 
 then-write : (f : Four) (lent : List ℕ) → IsFour f → lengthOf (f .cipher) (f .position) ≤ length lent
-    → thenWrite (record { refusal = 0; value = record { head = headAt (codeOf (f .cipher)) (f .position); area = tablesOf f } }) lent
+    → thenWrite (record { refusal = 0; value = engineOfFour f }) lent
     ≡ checkpointPut f lent
 then-write f lent h l = rw (write-four f lent h l)
 
@@ -277,6 +273,7 @@ rewrites string area lent f position h z w l =
     (then-write (atPosition f position) lent (record { pair = h .is-four .pair; within = w }) l)
 
 pub from-checkpoint : FromCheckpoint
+unfolding lastOutput
 from-checkpoint = record {
   refused-by-load = λ string area. by-load string area (loadCheck string (length area)) refl;
   cipher-is = cipher-is;

@@ -20,13 +20,13 @@ use Rattle.engine.specs.declared.answers.LoadDone.{LoadDone}
 use Rattle.conditions.specs.Result.{Result, refused, accepted, Outcome, outcome}
 use Rattle.conditions.specs.Limit.{limit}
 use Rattle.engine.specs.Head.{freshHead}
-use Rattle.conditions.specs.Conditions.{ready, endOf}
-use Rattle.engine.specs.Calls.{Engine, engineOf, setUpCall, moveCall, write, writeCall, recoverCall, loadCall}
+use Rattle.conditions.specs.Conditions.{endOf}
+use Rattle.engine.specs.Calls.{Engine, engineOf, headReady, setUpCall, moveCall, write, writeCall, recoverCall, loadCall}
 use Rattle.engine.specs.Calls as Calls
 use Rattle.engine.specs.Answers as Answers
 use Rattle.engine.proofs.Calls.{move-refused, move-unreached}
 use Rattle.theorems.specs.Demand3.{given}
-use Rattle.theorems.proofs.Conditions.{ready-shows}
+use Rattle.theorems.proofs.Conditions.{word-shows}
 use Rattle.theorems.proofs.Writes.{write-shows}
 use Rattle.lab.specs.Tasks as Tasks
 use Rattle.lab.specs.Tasks.{loadFresh, moveTo, loadAndMove, openCheckpoint, setUpAt, thenWrite, recoverFrom}
@@ -45,17 +45,17 @@ ends-at p q = +ℤ-comm (pos p) (pos q -ℤ pos p) ∙ -ℤ-+ℤ-cancel (pos q) 
 
 module _ (h : Head) (area : List ℕ) where
   -- from a position over the limit every distance gives the same refusal
-  over : (d e : ℤ) (r : Result Cipher) → ready (h .code) (h .position) (length area) ≡ r → limit < h .position → moveCall h area d ≡ moveCall h area e
+  over : (d e : ℤ) (r : Result Cipher) → headReady h area ≡ r → limit < h .position → moveCall h area d ≡ moveCall h area e
   over d e (refused n) q l = sym (move-refused h area d n q) ∙ move-refused h area e n q
   over d e (accepted c) q l =
-      let w = ready-shows (h .code) (h .position) (length area) c q .within-limit in absurd (omega arith)
+      let w = word-shows (h .code) (h .position) (h .word) area c q .is-ready .within-limit in absurd (omega arith)
 
   pub from-over : (position : ℕ) (d : ℤ) → limit < h .position → moveCall h area d ≡ moveTo position (engineOf h area)
   unfolding moveTo
-  from-over position d l = over d _ (ready (h .code) (h .position) (length area)) refl l
+  from-over position d l = over d _ (headReady h area) refl l
 
   -- two distances whose ends pass the limit give the same refusal
-  past : (d e : ℤ) (r : Result Cipher) → ready (h .code) (h .position) (length area) ≡ r → endOf (h .position) d ≡ refused 6
+  past : (d e : ℤ) (r : Result Cipher) → headReady h area ≡ r → endOf (h .position) d ≡ refused 6
       → endOf (h .position) e ≡ refused 6 → moveCall h area d ≡ moveCall h area e
   past d e (refused n) q x y = sym (move-refused h area d n q) ∙ move-refused h area e n q
   past d e (accepted c) q x y = sym (move-unreached h area d c q 6 x) ∙ move-unreached h area e c q 6 y
@@ -65,7 +65,7 @@ module _ (h : Head) (area : List ℕ) where
   unfolding moveTo endOf
   to-over position n l m =
       let p = h .position in
-      past (pos n) (pos position -ℤ pos p) (ready (h .code) p (length area)) refl
+      past (pos n) (pos position -ℤ pos p) (headReady h area) refl
       (rw (lt-leb (p + n) limit (omega arith)))
       (rw (ends-at p position, lt-leb position limit l))
 

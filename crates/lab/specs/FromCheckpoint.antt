@@ -40,13 +40,13 @@ pub record FromCheckpoint : Type 0 where
   pub refused-by-load : (string area : List ℕ) → openCheckpoint string area .refusal ≡ loadCall freshHead string area .refusal
   -- The area is that of the cipher of the checkpoint.
   pub cipher-is : (string : List ℕ) (f : Four) → Checkpoint string f → cipherOf string ≡ f .cipher
-  -- The checkpoint of any four opens: the head is at position 0, and the tables are those of set-up with that key and IV.
+  -- The checkpoint of any four opens: the head is at position 0 with word 0, and the tables are those of set-up with that key and IV.
   pub opens :
       (string area : List ℕ) (f : Four) → Checkpoint string f → length area ≡ areaLength (f .cipher)
       → openCheckpoint string area
       ≡ record {
         refusal = 0;
-        value = engineOf (headAt (codeOf (f .cipher)) 0) (SetUp.setUp (f .cipher) (f .key) (f .iv));
+        value = engineOf (headAt (codeOf (f .cipher)) 0 0) (SetUp.setUp (f .cipher) (f .key) (f .iv));
       }
   -- So opening it leaves what set up with that key and IV leaves.
   pub as-set-up :

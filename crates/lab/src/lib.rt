@@ -61,7 +61,7 @@ pub fn command_of(word: &[u8]) -> Command
 }
 
 // The code of the cipher that a word names, 0 where it names none.
-pub fn cipher_code(word: &[u8]) -> u8
+pub fn cipher_code(word: &[u8]) -> u32
     ensures { λ r. ⌜ r ≡ Words.cipherCode (now (word .entry)) ⌝ }
 {
     if same(word, b"hc128") {
@@ -113,7 +113,7 @@ pub fn cipher_of(string: &[u8]) -> Cipher
     if string.len() == 0 {
         return Cipher::Hc256;
     }
-    if string[0] == cipher::code_of(Cipher::Hc128) {
+    if string[0] as u32 == cipher::code_of(Cipher::Hc128) {
         return Cipher::Hc128;
     }
     Cipher::Hc256
@@ -219,7 +219,7 @@ pub fn open_checkpoint(string: &[u8], area: &mut [u32]) -> Done
 }
 
 // Sets up with a key and an IV and moves to a position.
-pub fn set_up_at(code: u8, key: &[u8], iv: &[u8], area: &mut [u32], position: u64) -> Done
+pub fn set_up_at(code: u32, key: &[u8], iv: &[u8], area: &mut [u32], position: u64) -> Done
     ensures { λ r. ⌜
         Answers.done (r .refusal) (r .head) (now (area .exit))
         ≡ Tasks.setUpAt code (now (key .entry)) (now (iv .entry)) (now (area .entry)) position ⌝ }
@@ -253,7 +253,7 @@ fn write_after(done: Done, area: &[u32], lent: &mut [u8]) -> WriteDone
 
 // Sets up with a key and an IV, moves to a position and puts the checkpoint at the start of the lent bytes.
 pub fn write_at(
-    code: u8,
+    code: u32,
     key: &[u8],
     iv: &[u8],
     area: &mut [u32],

@@ -1,11 +1,11 @@
 -- Many steps of a cipher, forward and back, and how many a byte position stands for.
 use mathlib.Core.Bool.{cond}
 use mathlib.Core.List.{List}
-use Prim.Native.Nat.{ℕ, _+_, _-_, _/_}
+use Prim.Native.Nat.{ℕ, zero, suc, _+_, _-_, _/_}
 use lib.Dec.{leb}
 use Rattle.laws.specs.Iterate.{forward, backward}
 use Rattle.cipher.specs.declared.Cipher.{Cipher}
-use Rattle.tables.specs.Step.{step, stepBack}
+use Rattle.tables.specs.Step.{step, stepBack, output}
 
 -- the steps i to i + n - 1
 abbrev pub steps : Cipher → List ℕ → ℕ → ℕ → List ℕ
@@ -25,3 +25,12 @@ moved c s p q =
     cond (leb (stepsAt p) (stepsAt q))
     (steps c s (stepsAt p) (stepsAt q - stepsAt p))
     (stepsBack c s (stepsAt q) (stepsAt p - stepsAt q))
+
+-- the output of the last of n steps taken, from the tables s after it; 0 where none is taken
+unfoldable pub lastOutput : Cipher → List ℕ → ℕ → ℕ
+lastOutput c s zero = 0
+lastOutput c s (suc i) = output c s i
+
+-- Document 02 (a), the word of position p: 'it is the output of the last step taken, and 0 at position 0', where s are the tables at p
+abbrev pub wordAt : Cipher → List ℕ → ℕ → ℕ
+wordAt c s p = lastOutput c s (stepsAt p)

@@ -1,4 +1,4 @@
-// Many steps of a cipher, forward and back, by runs where there are any; and a move from one byte position to another.
+// Many steps of a cipher, forward and back, by runs where there are any; a move from one byte position to another; and the word of a position.
 ghost use mathlib.Core.Path.{_≡_};
 ghost use Prim.Native.Nat.{_+_, _-_, _^_, _≤_, _<_, min};
 ghost use lib.ListN.{length};
@@ -83,4 +83,16 @@ pub fn move_tables(cipher: Cipher, area: &mut [u32], p: usize, q: usize)
     } else {
         retreat(cipher, area, to, from - to);
     }
+}
+
+// The word of position p: the output of the last step taken, and 0 at position 0.
+pub fn word_at(cipher: Cipher, area: &[u32], p: usize) -> u32
+    requires { ⌜ (length (now area) ≡ areaLength cipher) × (p < 2 ^ 63) ⌝ }
+    ensures { λ r. ⌜ r ≡ Steps.wordAt cipher (now (area .entry)) p ⌝ }
+{
+    let n = steps_at(p);
+    if n == 0 {
+        return 0;
+    }
+    tables::output_again(cipher, area, n - 1)
 }

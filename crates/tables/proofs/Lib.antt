@@ -4,3 +4,4 @@ pub mod Change
 pub mod Inverse
 pub mod Turns
 pub mod Words
+pub mod Masks

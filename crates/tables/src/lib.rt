@@ -117,3 +117,26 @@ pub fn output(cipher: Cipher, area: &[u32], i: usize) -> u32
     let k = place(cipher, i);
     filter(cipher, area, i) ^ area[k]
 }
+
+// Step i; its output.
+pub fn word(cipher: Cipher, area: &mut [u32], i: usize) -> u32
+    requires { ⌜ length (now area) ≡ areaLength cipher ⌝ }
+    ensures { λ r. ⌜ (now (area .exit) ≡ Step.step cipher (now (area .entry)) i) × (r ≡ Step.output cipher (now (area .exit)) i) ⌝ }
+{
+    step(cipher, area, i);
+    output(cipher, area, i)
+}
+
+// The output word of step i, from the area after it, as `output` gives it, in the fewest operations: it is worked out in each call that compares the
+// head's word. Both lengths are powers of two, so that & takes the remainders, and 1,012 is 12 below a multiple of either table's length.
+pub fn output_again(cipher: Cipher, area: &[u32], i: usize) -> u32
+    requires { ⌜ length (now area) ≡ areaLength cipher ⌝ }
+    ensures { λ r. ⌜ r ≡ Step.output cipher (now (area .entry)) i ⌝ }
+{
+    let t = area.len() / 2;
+    let k = i & (area.len() - 1);
+    let a = k & t;
+    let minus12 = a + ((k + 1012) & (t - 1));
+    let b = t - a;
+    functions::h(cipher, &area[b..], area[minus12]) ^ area[k]
+}

@@ -9,29 +9,30 @@ use Rattle.cipher.specs.declared.Cipher.the-variants.{Hc128}
 use Rattle.cipher.specs.Numbers.{byCode, codeOf}
 use Rattle.cipher.proofs.Codes.{code-of}
 use Rattle.cipher.proofs.Sizes.{sizes}
+use Rattle.steps.specs.Steps.{lastOutput}
 use Rattle.varint.proofs.Groups.{number-last, number-count}
 use Rattle.checkpoint.specs.Checkpoint.{lengthOf, longest}
 use Rattle.checkpoint.proofs.Checkpoint.{length-longest}
 use Rattle.conditions.specs.Result.{Result, refused, accepted, Outcome, outcome}
-use Rattle.conditions.specs.Conditions.{ready, headCheck}
-use Rattle.conditions.proofs.Conditions.{ready-accepted, head-accepted}
+use Rattle.conditions.specs.Conditions.{headCheck}
+use Rattle.conditions.proofs.Conditions.{head-accepted}
 use Rattle.engine.specs.declared.Head.{Head}
 use Rattle.engine.specs.Head.{headAt}
-use Rattle.engine.specs.Calls.{Written, write, checkpointLength, checkpointLengthCall}
+use Rattle.engine.specs.Calls.{headReady, Written, write, checkpointLength, checkpointLengthCall}
 use Rattle.theorems.specs.Demand3.{given}
 use Rattle.theorems.specs.CheckpointLength.{CheckpointLength}
 use Rattle.theorems.proofs.Results.{no-refusal, accepted-one, after-line}
-use Rattle.theorems.proofs.Conditions.{same-code, ready-shows, head-shows}
+use Rattle.theorems.proofs.Conditions.{same-code, word-shows, word-accepted, head-shows}
 use Rattle.theorems.proofs.Writes.{write-shows, write-enough, write-too-few, write-iff, write-8-iff}
 
 returned : (h : Head) (area lent : List ℕ) (w : Written) (c : Cipher)
-    → ready (h .code) (h .position) (length area) ≡ accepted c → write h area lent ≡ accepted w
+    → headReady h area ≡ accepted c → write h area lent ≡ accepted w
     → (w .length ≡ lengthOf c (h .position)) × (w .length ≡ length (given w))
     × (checkpointLength (h .code) (h .position) ≡ accepted (w .length))
 unfolding checkpointLength
 returned h area lent w c r e =
     let (d, s) = write-shows h area lent w e in
-    let q = ready-shows (h .code) (h .position) (length area) c r in
+    let q = word-shows (h .code) (h .position) (h .word) area c r .is-ready in
     let same : d ≡ c = same-code d c (sym (s .is-ready .code-is) ∙ q .code-is) in
     let n : w .length ≡ lengthOf c (h .position) = s .length-is ∙ ap (λ (x : Cipher). lengthOf x (h .position)) same in
     let k = head-accepted (h .code) (h .position) c (ap byCode (q .code-is) ∙ code-of c) (q .within-limit) in
@@ -63,8 +64,9 @@ told-within code position o e = rw e (within (checkpointLength code position) re
     within (accepted n) e = after-length code position n e λ c q l. omega (arith, sizes c)
 
 -- HC-128 at position 0 is ready on an area of 1,024 words
-at-0 : (area : List ℕ) → length area ≡ 1024 → ready 1 0 (length area) ≡ accepted Hc128
-at-0 area e = ready-accepted (codeOf Hc128) 0 (length area) Hc128 (code-of Hc128) e (omega arith)
+at-0 : (area : List ℕ) → length area ≡ 1024 → headReady (headAt 1 0 0) area ≡ accepted Hc128
+unfolding lastOutput
+at-0 area e = word-accepted Hc128 0 0 area e (omega arith) refl
 
 pub checkpoint-length : CheckpointLength
 checkpoint-length = record {
@@ -76,6 +78,6 @@ checkpoint-length = record {
   at-most = at-most;
   enough = write-iff;
   too-few = write-8-iff;
-  fits-in-4098 = λ area lent e n. write-enough (headAt 1 0) area lent Hc128 (at-0 area e) (omega (arith, ap length (number-last 0 (omega arith))));
-  not-in-4097 = λ area lent e n. write-too-few (headAt 1 0) area lent Hc128 (at-0 area e) (omega (arith, ap length (number-last 0 (omega arith))));
+  fits-in-4098 = λ area lent e n. write-enough (headAt 1 0 0) area lent Hc128 (at-0 area e) (omega (arith, ap length (number-last 0 (omega arith))));
+  not-in-4097 = λ area lent e n. write-too-few (headAt 1 0 0) area lent Hc128 (at-0 area e) (omega (arith, ap length (number-last 0 (omega arith))));
 }

@@ -12,12 +12,13 @@ use Rattle.cipher.specs.declared.Cipher.{Cipher}
 use Rattle.cipher.specs.declared.Cipher.the-variants.{Hc128, Hc256}
 use Rattle.cipher.specs.Numbers.{byCode, codeOf, areaLength, keyLength, ivLength}
 use Rattle.cipher.proofs.Codes.{code-of, by-code}
+use Rattle.steps.specs.Steps.{wordAt}
 use Rattle.setup.specs.SetUp.{Undone, none, found}
 use Rattle.conditions.specs.Result.{Result, refused, accepted}
 use Rattle.conditions.specs.Limit.{limit}
 use Rattle.checkpoint.specs.Checkpoint.{mostGroups}
-use Rattle.conditions.specs.Conditions.{setUpCheck, ready, headCheck, cipherCheck, within, endOf, Course, moveCheck, undoAt, KeyAndIv, foundOr12, recoverCheck, PositionRead, positionRead, Contents, loadFound, loadCheck}
-use Rattle.conditions.proofs.Conditions.{ready-accepted}
+use Rattle.conditions.specs.Conditions.{setUpCheck, ready, readyWithWord, headCheck, cipherCheck, within, endOf, Course, moveCheck, undoAt, KeyAndIv, foundOr12, recoverCheck, PositionRead, positionRead, Contents, loadFound, loadCheck}
+use Rattle.conditions.proofs.Conditions.{ready-accepted, word-true}
 use Rattle.theorems.proofs.Results.{no-refusal, accepted-one, after-line, after-without, after-unless}
 
 -- ── codes ──
@@ -93,6 +94,41 @@ ready-shows code position size c e =
     let (d, r, q) = ready-passed code position size accepted-only e in
     subst (ReadyShows code position size) (accepted-one refl q) r
 
+ready-not-12 : (code position size : ℕ) → ready code position size ≡ refused 12 → ⊥
+ready-not-12 code position size e = no-refusal (ready-passed code position size refused-only e .2)
+
+-- ── code, area, position and word of the head ──
+
+pub record WordShows (code position word : ℕ) (area : List ℕ) (c : Cipher) : Type 0 where
+  pub is-ready : ReadyShows code position (length area) c
+  pub word-is : word ≡ wordAt c area position
+
+-- they hold where the outcome x is no refusal but 12
+word-passed : (code position word : ℕ) (area : List ℕ) {x : Result Cipher} → Only12 x → readyWithWord code position word area ≡ x
+    → (c : Cipher) × WordShows code position word area c × (accepted c ≡ x)
+unfolding readyWithWord
+word-passed code position word area only e =
+    after-line (ready code position (length area)) _ e (λ n q s. ready-not-12 code position (length area) (s ∙ ap refused (only n q))) λ c e₁ r₁.
+    after-unless 13 (eqb word (wordAt c area position)) _ r₁ (λ q. omega (arith, only 13 q)) λ e₂ r₂. (
+      c,
+      record { is-ready = ready-shows code position (length area) c e₁; word-is = eqb-true word (wordAt c area position) e₂ },
+      r₂,
+    )
+
+pub word-shows : (code position word : ℕ) (area : List ℕ) (c : Cipher) → readyWithWord code position word area ≡ accepted c
+    → WordShows code position word area c
+word-shows code position word area c e =
+    let (d, r, q) = word-passed code position word area accepted-only e in
+    subst (WordShows code position word area) (accepted-one refl q) r
+
+word-not-12 : (code position word : ℕ) (area : List ℕ) → readyWithWord code position word area ≡ refused 12 → ⊥
+word-not-12 code position word area e = no-refusal (word-passed code position word area refused-only e .2)
+
+pub word-accepted : (c : Cipher) (position word : ℕ) (area : List ℕ) → length area ≡ areaLength c → position ≤ limit → word ≡ wordAt c area position
+    → readyWithWord (codeOf c) position word area ≡ accepted c
+word-accepted c position word area z l w =
+    word-true (codeOf c) position word area c (ready-accepted (codeOf c) position (length area) c (code-of c) z l) w
+
 -- ── a head alone ──
 
 pub head-shows : (code position : ℕ) (c : Cipher) → headCheck code position ≡ accepted c → (code ≡ codeOf c) × (position ≤ limit)
@@ -102,18 +138,15 @@ head-shows code position c e =
     after-unless 5 (leb position limit) _ r₁ no-refusal λ e₂ r₂.
     (by-code code d e₁ ∙ ap codeOf (accepted-one refl r₂), leb-true position limit e₂)
 
-ready-not-12 : (code position size : ℕ) → ready code position size ≡ refused 12 → ⊥
-ready-not-12 code position size e = no-refusal (ready-passed code position size refused-only e .2)
+-- ── cipher and move, by what they begin with ──
 
--- ── cipher and move ──
-
-pub cipher-shows : (code position size n : ℕ) (c : Cipher) → cipherCheck code position size n ≡ accepted c
-    → ReadyShows code position size c × (position + n ≤ limit)
+pub cipher-shows : (begun : Result Cipher) (position n : ℕ) (c : Cipher) → cipherCheck begun position n ≡ accepted c
+    → (begun ≡ accepted c) × (position + n ≤ limit)
 unfolding cipherCheck
-cipher-shows code position size n c e =
-    after-line (ready code position size) _ e (λ _. no-refusal) λ d e₁ r₁.
+cipher-shows begun position n c e =
+    after-line begun _ e (λ _. no-refusal) λ d e₁ r₁.
     after-unless 6 (leb (position + n) limit) _ r₁ no-refusal λ e₂ r₂.
-    (ready-shows code position size c (e₁ ∙ r₂), leb-true (position + n) limit e₂)
+    (e₁ ∙ r₂, leb-true (position + n) limit e₂)
 
 within-shows : (z : ℤ) (end : ℕ) → within z ≡ accepted end → (z ≡ pos end) × (end ≤ limit)
 within-shows (negsuc n) end e = no-refusal (sym e)
@@ -122,48 +155,46 @@ within-shows (pos n) end e =
     let same : n ≡ end = accepted-one refl r₁ in
     (ap pos same, rw same at (leb-true n limit e₁))
 
-pub record MoveShows (code position size : ℕ) (distance : ℤ) (m : Course) : Type 0 where
-  pub is-ready : ReadyShows code position size (m .cipher)
+pub record MoveShows (begun : Result Cipher) (position : ℕ) (distance : ℤ) (m : Course) : Type 0 where
+  pub begun-is : begun ≡ accepted (m .cipher)
   pub end-is : pos position +ℤ distance ≡ pos (m .end)
   pub end-within : m .end ≤ limit
 
-pub move-shows : (code position size : ℕ) (distance : ℤ) (m : Course) → moveCheck code position size distance ≡ accepted m
-    → MoveShows code position size distance m
+pub move-shows : (begun : Result Cipher) (position : ℕ) (distance : ℤ) (m : Course) → moveCheck begun position distance ≡ accepted m
+    → MoveShows begun position distance m
 unfolding moveCheck endOf
-move-shows code position size distance m e =
-    after-line (ready code position size) _ e (λ _. no-refusal) λ c e₁ r₁.
+move-shows begun position distance m e =
+    after-line begun _ e (λ _. no-refusal) λ c e₁ r₁.
     after-line (endOf position distance) _ r₁ (λ _. no-refusal) λ end e₂ r₂.
     let w = within-shows (pos position +ℤ distance) end e₂ in
-    subst (MoveShows code position size distance) (accepted-one refl r₂)
-    (record { is-ready = ready-shows code position size c e₁; end-is = w .0; end-within = w .1 })
+    subst (MoveShows begun position distance) (accepted-one refl r₂)
+    (record { begun-is = e₁; end-is = w .0; end-within = w .1 })
 
-pub move-accepted : (c : Cipher) (position size : ℕ) (distance : ℤ) (end : ℕ) → size ≡ areaLength c → position ≤ limit
-    → pos position +ℤ distance ≡ pos end → end ≤ limit
-    → moveCheck (codeOf c) position size distance ≡ accepted (record { cipher = c; end = end })
+pub move-accepted : (begun : Result Cipher) (c : Cipher) (position : ℕ) (distance : ℤ) (end : ℕ) → begun ≡ accepted c
+    → pos position +ℤ distance ≡ pos end → end ≤ limit → moveCheck begun position distance ≡ accepted (record { cipher = c; end = end })
 unfolding moveCheck endOf
-move-accepted c position size distance end z l e l′ =
-    rw (ready-accepted (codeOf c) position size c (code-of c) z l, e, le-leb end limit l′)
+move-accepted begun c position distance end b e l = rw (b, e, le-leb end limit l)
 
 -- ── recover ──
 
 -- where the conditions before 12 hold, what undoing finds decides, ..
-pub recover-finds : (code p : ℕ) (area : List ℕ) (k v : ℕ) (c : Cipher) → ReadyShows code p (length area) c
+pub recover-finds : (code p w : ℕ) (area : List ℕ) (k v : ℕ) (c : Cipher) → WordShows code p w area c
     → k ≡ keyLength c → v ≡ ivLength c
-    → recoverCheck code p area k v ≡ foundOr12 (undoAt c area p)
+    → recoverCheck code p w area k v ≡ foundOr12 (undoAt c area p)
 unfolding recoverCheck
-recover-finds code p area k v c r kn vn =
-    let e = ready-accepted (codeOf c) p (length area) c (code-of c) (r .sized) (r .within-limit) in
-    rw (r .code-is, e, eq-eqb k (keyLength c) kn, eq-eqb v (ivLength c) vn)
+recover-finds code p w area k v c r kn vn =
+    let e = word-accepted c p w area (r .is-ready .sized) (r .is-ready .within-limit) (r .word-is) in
+    rw (r .is-ready .code-is, e, eq-eqb k (keyLength c) kn, eq-eqb v (ivLength c) vn)
 
 -- .. and they hold where the outcome x is no refusal but 12
-pub recover-passed : (code p : ℕ) (area : List ℕ) (k v : ℕ) {x : Result KeyAndIv} → Only12 x → recoverCheck code p area k v ≡ x
-    → (c : Cipher) × ReadyShows code p (length area) c × (k ≡ keyLength c) × (v ≡ ivLength c) × (foundOr12 (undoAt c area p) ≡ x)
+pub recover-passed : (code p w : ℕ) (area : List ℕ) (k v : ℕ) {x : Result KeyAndIv} → Only12 x → recoverCheck code p w area k v ≡ x
+    → (c : Cipher) × WordShows code p w area c × (k ≡ keyLength c) × (v ≡ ivLength c) × (foundOr12 (undoAt c area p) ≡ x)
 unfolding recoverCheck
-recover-passed code p area k v only e =
-    after-line (ready code p (length area)) _ e (λ n q s. ready-not-12 code p (length area) (s ∙ ap refused (only n q))) λ c e₁ r₁.
+recover-passed code p w area k v only e =
+    after-line (readyWithWord code p w area) _ e (λ n q s. word-not-12 code p w area (s ∙ ap refused (only n q))) λ c e₁ r₁.
     after-unless 2 (eqb k (keyLength c)) _ r₁ (λ q. omega (arith, only 2 q)) λ e₂ r₂.
     after-unless 3 (eqb v (ivLength c)) _ r₂ (λ q. omega (arith, only 3 q)) λ e₃ r₃.
-    (c, ready-shows code p (length area) c e₁, eqb-true k (keyLength c) e₂, eqb-true v (ivLength c) e₃, r₃)
+    (c, word-shows code p w area c e₁, eqb-true k (keyLength c) e₂, eqb-true v (ivLength c) e₃, r₃)
 
 -- ── load ──
 

@@ -1,6 +1,6 @@
 -- Demand 2 holds of the calls: ciphering is with the account's keystream, recover gives its key and IV, and a move is undone by the move back.
 -- Assumes nothing.
-use mathlib.Core.Path.{_≡_, refl, sym, ap, ap₂, _∙_, subst}
+use mathlib.Core.Path.{_≡_, refl, sym, ap, ap₂, _∙_, subst, subst₂}
 use mathlib.Core.List.{List}
 use Prim.Native.Nat.{ℕ, _+_, _≤_, _<_}
 use borrow.Author.Tests.{le-leb}
@@ -16,7 +16,7 @@ use Rattle.laws.proofs.Iterate.{forward-none}
 use Rattle.keys.specs.Key.{Pair}
 use Rattle.tables.specs.Area.{Area}
 use Rattle.tables.specs.Step.{step}
-use Rattle.steps.specs.Steps.{moved}
+use Rattle.steps.specs.Steps.{moved, wordAt}
 use Rattle.keystream.specs.Keystream.{keystream, ciphered}
 use Rattle.keystream.proofs.Ciphered.{length-ciphered}
 use Rattle.keystream.proofs.Keystream.{ciphered-keystream}
@@ -25,15 +25,15 @@ use Rattle.engine.specs.declared.Head.{Head}
 use Rattle.conditions.specs.Result.{accepted}
 use Rattle.conditions.specs.Limit.{limit}
 use Rattle.engine.specs.Head.{headAt}
-use Rattle.conditions.specs.Conditions.{ready, cipherCheck, endOf, moveCheck}
-use Rattle.engine.specs.Calls.{Engine, engineOf, Ciphered, setUp, cipher, move, recover, spent}
+use Rattle.conditions.specs.Conditions.{cipherCheck, endOf, moveCheck}
+use Rattle.engine.specs.Calls.{Engine, engineOf, engineAt, headReady, Ciphered, setUp, cipher, move, recover, spent}
 use Rattle.conditions.proofs.Conditions.{set-up-accepted, head-accepted}
 use Rattle.theorems.specs.Account.{Four, IsFour, atPosition, holds, tablesOf, engineOfFour}
 use Rattle.theorems.specs.Demand2.{Demand2}
 use Rattle.theorems.proofs.Results.{no-refusal, accepted-one, after-line, after-unless}
-use Rattle.theorems.proofs.Tables.{moved-area, moved-undone, undo-finds, four-sized, four-ready, four-moved}
+use Rattle.theorems.proofs.Tables.{moved-area, moved-undone, undo-finds, four-true, four-moved}
 use Rattle.theorems.proofs.Twice.{ciphered-twice}
-use Rattle.theorems.proofs.Conditions.{same-code, cipher-shows, move-shows, move-accepted, recover-finds}
+use Rattle.theorems.proofs.Conditions.{same-code, word-shows, word-accepted, cipher-shows, move-shows, move-accepted, recover-finds}
 use Rattle.theorems.proofs.Agree.{headOf, agree, agree-four}
 
 -- ── from the head and the tables of a four ──
@@ -42,14 +42,14 @@ four-cipherable : (f : Four) (area bytes : List ℕ) → IsFour f → area ≡ t
     → (r : Ciphered) × (cipher (headOf (holds f)) area bytes ≡ accepted r)
 unfolding cipher cipherCheck
 four-cipherable f area bytes h t l =
-    rw (four-ready f area h t, le-leb (f .position + length bytes) limit l) (_, refl)
+    rw (four-true f area _ h t refl, le-leb (f .position + length bytes) limit l) (_, refl)
 
 four-movable : (f : Four) (d : ℤ) (end : ℕ) → IsFour f → pos (f .position) +ℤ d ≡ pos end → end ≤ limit
     → move (headOf (holds f)) (tablesOf f) d ≡ accepted (engineOfFour (atPosition f end))
 unfolding move
 four-movable f d end h e l =
     rw (
-      move-accepted (f .cipher) (f .position) (length (tablesOf f)) d end (four-sized f (tablesOf f) h refl) (h .within) e l,
+      move-accepted _ (f .cipher) (f .position) d end (four-true f (tablesOf f) _ h refl refl) e l,
       four-moved f end h,
     )
 
@@ -58,8 +58,8 @@ four-moved-to : (f : Four) (d : ℤ) (e : Engine) → IsFour f → move (headOf 
     → (end : ℕ) × (pos (f .position) +ℤ d ≡ pos end) × (end ≤ limit) × (e ≡ engineOfFour (atPosition f end))
 unfolding move
 four-moved-to f d e h q =
-    after-line (moveCheck (codeOf (f .cipher)) (f .position) (length (tablesOf f)) d) _ q (λ _. no-refusal) λ m e₁ r₁.
-    let a = move-shows (codeOf (f .cipher)) (f .position) (length (tablesOf f)) d m e₁ in
+    after-line (moveCheck (headReady (headOf (holds f)) (tablesOf f)) (f .position) d) _ q (λ _. no-refusal) λ m e₁ r₁.
+    let a = move-shows _ (f .position) d m e₁ in
     (m .end, a .end-is, a .end-within, accepted-one q (four-movable f d (m .end) h (a .end-is) (a .end-within)))
 
 four-set-up : (c : Cipher) (key iv area : List ℕ) → Pair c key iv → length area ≡ areaLength c
@@ -80,9 +80,9 @@ four-enciphered : (f : Four) (area bytes : List ℕ) (r : Ciphered) → area ≡
     → getD (r .bytes) i 0 ≡ getD bytes i 0 ⊕ keystream (f .cipher) (SetUp.setUp (f .cipher) (f .key) (f .iv)) (f .position + i)
 unfolding cipher tablesOf
 four-enciphered f area bytes r t e i l =
-    after-line (cipherCheck (codeOf (f .cipher)) (f .position) (length area) (length bytes)) _ e (λ _. no-refusal) λ c e₁ r₁.
-    let ready = cipher-shows (codeOf (f .cipher)) (f .position) (length area) (length bytes) c e₁ .0 in
-    let same : c ≡ f .cipher = sym (same-code (f .cipher) c (ready .code-is)) in
+    after-line (cipherCheck (headReady (headOf (holds f)) area) (f .position) (length bytes)) _ e (λ _. no-refusal) λ c e₁ r₁.
+    let shows = word-shows (codeOf (f .cipher)) (f .position) _ area c (cipher-shows _ (f .position) (length bytes) c e₁ .0) in
+    let same : c ≡ f .cipher = sym (same-code (f .cipher) c (shows .is-ready .code-is)) in
     ap (λ (x : Ciphered). getD (x .bytes) i 0) (sym (accepted-one refl r₁))
     ∙ ap₂ (λ (d : Cipher) (s : List ℕ). getD (ciphered d s (f .position) bytes) i 0) same t
     ∙ ciphered-keystream (f .cipher) _ (f .position) bytes i l
@@ -93,8 +93,8 @@ four-recovered : (f : Four) (area key iv : List ℕ) → IsFour f → area ≡ t
 unfolding recover tablesOf
 four-recovered f area key iv h t kn vn =
     let r =
-    recover-finds (codeOf (f .cipher)) (f .position) area (length key) (length iv) (f .cipher)
-    (record { code-is = refl; sized = four-sized f area h t; within-limit = h .within })
+    recover-finds (codeOf (f .cipher)) (f .position) _ area (length key) (length iv) (f .cipher)
+    (word-shows (codeOf (f .cipher)) (f .position) _ area (f .cipher) (four-true f area _ h t refl))
     kn
     vn in
     rw (r, t, undo-finds (f .cipher) (f .key) (f .iv) (f .position) (h .pair))
@@ -104,35 +104,40 @@ four-recovered f area key iv h t kn vn =
 as-long : (h : Head) (area bytes : List ℕ) (r : Ciphered) → cipher h area bytes ≡ accepted r → length (r .bytes) ≡ length bytes
 unfolding cipher
 as-long h area bytes r e =
-    after-line (cipherCheck (h .code) (h .position) (length area) (length bytes)) _ e (λ _. no-refusal) λ c e₁ r₁.
+    after-line (cipherCheck (headReady h area) (h .position) (length bytes)) _ e (λ _. no-refusal) λ c e₁ r₁.
     ap (λ (x : Ciphered). length (x .bytes)) (sym (accepted-one refl r₁)) ∙ length-ciphered c area (h .position) bytes
 
 module _ (c : Cipher) (p q : ℕ) (s : List ℕ) (d : ℤ) (area : Area c s) (p-within : p ≤ limit) (q-within : q ≤ limit) where
   back-accepted : pos p +ℤ d ≡ pos q
-      → move (headAt (codeOf c) q) (moved c s p q) (negℤ d) ≡ accepted (engineOf (headAt (codeOf c) p) s)
+      → move (headAt (codeOf c) q (wordAt c (moved c s p q) q)) (moved c s p q) (negℤ d) ≡ accepted (engineAt (codeOf c) c p s)
   unfolding move
   back-accepted e =
       let back : pos q +ℤ negℤ d ≡ pos p = ap (λ (x : ℤ). x +ℤ negℤ d) (sym e) ∙ +ℤ-negℤ-cancel (pos p) d in
-      rw (move-accepted c q _ (negℤ d) p (moved-area c s area p q .sized) q-within back p-within, moved-undone c s area p q)
+      rw (
+        move-accepted _ c q (negℤ d) p (word-accepted c q (wordAt c (moved c s p q) q) (moved c s p q) (moved-area c s area p q .sized) q-within refl) back p-within,
+        moved-undone c s area p q,
+      )
 
 -- where a move is accepted, so is the move back, and it restores head and tables
 move-undone : (h : Head) (area : List ℕ) (d : ℤ) (there : Engine) → AllWords area → move h area d ≡ accepted there
     → move (there .head) (there .area) (negℤ d) ≡ accepted (engineOf h area)
 unfolding move
 move-undone h area d there all e =
-    after-line (moveCheck (h .code) (h .position) (length area) d) _ e (λ _. no-refusal) λ m e₁ r₁.
-    let a = move-shows (h .code) (h .position) (length area) d m e₁ in
-    let r = a .is-ready in
+    after-line (moveCheck (headReady h area) (h .position) d) _ e (λ _. no-refusal) λ m e₁ r₁.
+    let a = move-shows _ (h .position) d m e₁ in
     let c = m .cipher in
     let p = h .position in
     let q = m .end in
+    let w = word-shows (h .code) p (h .word) area c (a .begun-is) in
+    let r = w .is-ready in
     let s : Area c area = record { sized = r .sized; words = all } in
     subst
     (λ (x : Engine). move (x .head) (x .area) (negℤ d) ≡ accepted (engineOf h area))
     (accepted-one refl r₁)
-    (subst
-    (λ (n : ℕ). move (headAt n q) (moved c area p q) (negℤ d) ≡ accepted (engineOf (headAt n p) area))
+    (subst₂
+    (λ (n v : ℕ). move (headAt n q (wordAt c (moved c area p q) q)) (moved c area p q) (negℤ d) ≡ accepted (engineOf (headAt n p v) area))
     (sym (r .code-is))
+    (sym (w .word-is))
     (back-accepted c p q area d s (r .within-limit) (a .end-within) (a .end-is)))
 
 -- what a cipher call leaves is what the move by the number of its bytes leaves, and from the same head it gives the bytes back
@@ -140,15 +145,15 @@ module _ (h : Head) (area bytes : List ℕ) (r : Ciphered) (e : cipher h area by
   as-moved : move h area (pos (length bytes)) ≡ accepted (r .engine)
   unfolding cipher cipherCheck move moveCheck endOf
   as-moved =
-      after-line (cipherCheck (h .code) (h .position) (length area) (length bytes)) _ e (λ _. no-refusal) λ c e₁ r₁.
-      after-line (ready (h .code) (h .position) (length area)) _ e₁ (λ _. no-refusal) λ d e₂ r₂.
+      after-line (cipherCheck (headReady h area) (h .position) (length bytes)) _ e (λ _. no-refusal) λ c e₁ r₁.
+      after-line (headReady h area) _ e₁ (λ _. no-refusal) λ d e₂ r₂.
       after-unless 6 (leb (h .position + length bytes) limit) _ r₂ no-refusal λ e₃ r₃.
       rw (e₂, e₃, accepted-one refl r₃) (ap (λ (x : Ciphered). accepted (x .engine)) (accepted-one refl r₁))
 
   given-back : cipher h area (r .bytes) ≡ accepted (record { engine = r .engine; bytes = bytes })
   unfolding cipher
   given-back =
-      after-line (cipherCheck (h .code) (h .position) (length area) (length bytes)) _ e (λ _. no-refusal) λ c e₁ r₁.
+      after-line (cipherCheck (headReady h area) (h .position) (length bytes)) _ e (λ _. no-refusal) λ c e₁ r₁.
       subst (λ (x : Ciphered). cipher h area (x .bytes) ≡ accepted (record { engine = x .engine; bytes = bytes })) (accepted-one refl r₁)
       (rw (length-ciphered c area (h .position) bytes, e₁, ciphered-twice c area (h .position) bytes))
 

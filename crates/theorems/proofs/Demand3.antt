@@ -8,23 +8,27 @@ use native.Mathlib.Omega.{arith}
 use lib.IntN.{pos, +ℤ-idl}
 use lib.ListN.{length, drop}
 use Rattle.word.specs.Bytes.{AllBytes}
-use Rattle.cipher.specs.Numbers.{codeOf, areaLength}
+use Rattle.cipher.specs.Numbers.{byCode, codeOf, areaLength}
 use Rattle.cipher.proofs.Codes.{code-of}
 use Rattle.conditions.specs.Result.{Result, refused, accepted}
-use Rattle.engine.specs.Head.{headAt}
+use Rattle.steps.specs.Steps.{wordAt}
 use Rattle.checkpoint.specs.Checkpoint.{layout, lengthOf, longest}
 use Rattle.checkpoint.proofs.Checkpoint.{length-longest}
 use Rattle.conditions.specs.Conditions.{Contents, loadCheck}
-use Rattle.engine.specs.Calls.{Written, Loaded, eightWords, write, load}
-use Rattle.conditions.proofs.Conditions.{set-up-accepted}
-use Rattle.theorems.specs.Account.{Call, call-set-up, call-move, call-load, AllGiven, Four, IsFour, Account, empty, holds, unless-refused, feed, account, engineAfter, accountAfter, checkpointOf, Checkpoint}
+use Rattle.engine.specs.declared.Head.{Head}
+use Rattle.engine.specs.Calls.{engineOf, engineAt, Written, Loaded, eightWords, write, load}
+use Rattle.conditions.proofs.Conditions.{set-up-accepted, ready-unknown, ready-accepted}
+use Rattle.theorems.specs.Account.{Call, call-set-up, call-cipher, call-move, call-write, call-recover, call-load, call-spent, AllGiven, answered, Four, IsFour, Account, empty, holds, unless-refused, feed, account, engineAfter, accountAfter, checkpointOf, Checkpoint}
 use Rattle.theorems.specs.Demand3.{writeAfter, given, Names, Demand3}
 use Rattle.theorems.proofs.Results.{no-refusal, accepted-one, after-line}
-use Rattle.theorems.proofs.Tables.{four-ready}
+use Rattle.theorems.proofs.Tables.{four-ready, four-true}
 use Rattle.theorems.proofs.Conditions.{same-code, no-code-0, move-accepted}
 use Rattle.theorems.proofs.Checkpoints.{fourOf, loadedOf, load-checkpoint, load-shows, load-is, checkpoint-of-one}
 use Rattle.theorems.proofs.Names.{name-of-one}
 use Rattle.theorems.proofs.Writes.{WriteShows, write-shows, write-iff}
+use Rattle.theorems.specs.HeadWord.{Compares}
+use Rattle.theorems.proofs.Demand1.{demand1}
+use Rattle.theorems.proofs.Compares.{cipher-compares, move-compares, write-compares, recover-compares, answers-13, not-one-of}
 use Rattle.theorems.proofs.Agree.{headOf, TablesAre, agree, agree-four}
 
 -- ── what is written ──
@@ -76,7 +80,38 @@ writable :
 writable calls g area lent f e =
     let h = agree-four calls g area f e in
     let s = engineAfter calls area .area in
-    rw (h .head-is) (write-iff (headOf (holds f)) s lent (f .cipher) (four-ready f s (h .tables-are .0) (h .tables-are .1)))
+    rw (h .head-is) (write-iff (headOf (holds f)) s lent (f .cipher) (four-true f s _ (h .tables-are .0) (h .tables-are .1) refl))
+
+-- from an account's head and tables no call answers 13: where the account is a four the word is true, and where it is empty 1 comes first
+true-compares : {A : Type 0} (start : List ℕ) (a : Account) (s : List ℕ) (result : Result A) → TablesAre start a s → Compares (headOf a) s result
+    → result ≡ refused 13 → ⊥
+unfolding byCode
+true-compares start empty s result t c q =
+    let z : _≡_ {A = ℕ} 13 1 = cc (q, c .before-13 1 (ready-unknown 0 0 (length s) refl)) in omega arith
+true-compares start (holds f) s result t c q =
+    c .gives-13 (f .cipher) (four-ready f s (t .0) (t .1)) .0 q (ap (λ (x : List ℕ). wordAt (f .cipher) x (f .position)) (sym (t .1)))
+
+module _ (start : List ℕ) (a : Account) (s : List ℕ) (t : TablesAre start a s) where
+  answers-no-13 : (call : Call) → answered (engineOf (headOf a) s) call ≡ 13 → ⊥
+  unfolding answered
+  answers-no-13 (call-set-up code key iv) q = not-one-of (demand1 .of-set-up (headOf a) code key iv s) q refl
+  answers-no-13 (call-cipher bytes) q =
+      true-compares start a s _ t (cipher-compares (headOf a) s bytes) (answers-13 (demand1 .of-cipher (headOf a) s bytes) q)
+  answers-no-13 (call-move distance) q =
+      true-compares start a s _ t (move-compares (headOf a) s distance) (answers-13 (demand1 .of-move (headOf a) s distance) q)
+  answers-no-13 (call-write lent) q =
+      true-compares start a s _ t (write-compares (headOf a) s lent) (answers-13 (demand1 .of-write (headOf a) s lent) q)
+  answers-no-13 (call-recover key iv) q =
+      true-compares start a s _ t (recover-compares (headOf a) s key iv) (answers-13 (demand1 .of-recover (headOf a) s key iv) q)
+  answers-no-13 (call-load string) q = not-one-of (demand1 .of-load (headOf a) string s) q refl
+  answers-no-13 call-spent q = not-one-of (demand1 .of-spent (headOf a)) q refl
+
+never-13 :
+    (calls : List Call) → AllGiven calls → (area : List ℕ) (call : Call) → answered (engineAfter calls area) call ≡ 13 → ⊥
+never-13 calls g area call q =
+    let h = agree calls g area in
+    answers-no-13 area (accountAfter calls area) (engineAfter calls area .area) (h .tables-are) call
+    (subst (λ (x : Head). answered (engineOf x (engineAfter calls area .area)) call ≡ 13) (h .head-is) q)
 
 -- a set up, and then a move
 reached :
@@ -91,7 +126,7 @@ reached f h area z =
       ((k .key-bytes, k .iv-bytes), (tt, tt)),
       rw (
         set-up-accepted (codeOf c) (length (f .key)) (length (f .iv)) (length area) c (code-of c) (k .key-long) (k .iv-long) z,
-        move-accepted c 0 (length area) (pos p) p z (omega arith) (+ℤ-idl (pos p)) (h .within),
+        move-accepted _ c 0 (pos p) p (ready-accepted (codeOf c) 0 (length area) c (code-of c) z (omega arith)) (+ℤ-idl (pos p)) (h .within),
       ),
     )
 
@@ -112,7 +147,7 @@ compared calls calls′ g g′ area area′ lent lent′ w w′ e e′ =
 -- the answer of an accepted load
 abbrev openedOf : Contents → Loaded
 openedOf l = record {
-  engine = record { head = headAt (codeOf (l .cipher)) (l .position); area = l .area };
+  engine = engineAt (codeOf (l .cipher)) (l .cipher) (l .position) (l .area);
   key = eightWords (l .key);
   iv = eightWords (l .iv);
 }
@@ -170,6 +205,7 @@ demand3 = record {
   written = written;
   fits = fits;
   writable = writable;
+  never-13 = never-13;
   reached = reached;
   compared = compared;
   loaded = loaded;

@@ -1,6 +1,7 @@
 pub mod FiveIndices
 pub mod Inverse
 pub mod Starred
+pub mod Within
 pub mod Demand1
 pub mod Stream
 pub mod Results
@@ -12,6 +13,8 @@ pub mod Checkpoints
 pub mod Names
 pub mod Writes
 pub mod Agree
+pub mod Compares
+pub mod HeadWord
 pub mod Demand3
 pub mod CheckpointLength
 pub mod Refusal12

@@ -11,6 +11,7 @@ use Rattle.word.proofs.Bytes.{words-bytes}
 use Rattle.cipher.specs.declared.Cipher.{Cipher}
 use Rattle.cipher.specs.Numbers.{codeOf}
 use Rattle.tables.specs.Area.{Area}
+use Rattle.steps.specs.Steps.{wordAt}
 use Rattle.setup.specs.SetUp.{Undone, none, found}
 use Rattle.checkpoint.specs.Checkpoint.{layout}
 use Rattle.engine.specs.declared.Head.{Head}
@@ -22,7 +23,7 @@ use Rattle.theorems.specs.Refusal12.{NoneHave, RecoverNone, LoadNone, Re
 use Rattle.theorems.proofs.Results.{no-refusal, refused-iff}
 use Rattle.theorems.proofs.Tables.{undo-finds, found-have}
 use Rattle.theorems.proofs.Zeros.{none-found-at}
-use Rattle.theorems.proofs.Conditions.{refused-only, ReadyShows, recover-finds, recover-passed, load-finds, load-passed}
+use Rattle.theorems.proofs.Conditions.{refused-only, WordShows, recover-finds, recover-passed, load-finds, load-passed}
 use Rattle.theorems.proofs.Checkpoints.{LaidOut, laid-out-passed, passed-laid-out}
 
 module _ (c : Cipher) (s : List ℕ) (p : ℕ) (area : Area c s) where
@@ -47,10 +48,10 @@ recover-refused h area key iv all t =
     let c = t .cipher in
     let k = length key in
     let v = length iv in
-    let r : ReadyShows (h .code) (h .position) (length area) c =
-    record { code-is = t .code-is; sized = t .sized; within-limit = t .within } in
-    refused-iff _ (recoverCheck (h .code) (h .position) area k v) 12 .1
-    (recover-finds (h .code) (h .position) area k v c r (t .key-long) (t .iv-long)
+    let r : WordShows (h .code) (h .position) (h .word) area c =
+    record { is-ready = record { code-is = t .code-is; sized = t .sized; within-limit = t .within }; word-is = t .word-is } in
+    refused-iff _ (recoverCheck (h .code) (h .position) (h .word) area k v) 12 .1
+    (recover-finds (h .code) (h .position) (h .word) area k v c r (t .key-long) (t .iv-long)
     ∙ last-refused c area (h .position) (record { sized = t .sized; words = all }) .1 (t .none-have))
 
 load-refused : (string area : List ℕ) → LoadNone string area → load string area ≡ refused 12
@@ -74,13 +75,15 @@ of-recover h area key iv all =
     let k = length key in
     let v = length iv in (
       (λ e.
-          let only = refused-iff _ (recoverCheck (h .code) (h .position) area k v) 12 .0 e in
-          let (c, r, kn, vn, last) = recover-passed (h .code) (h .position) area k v refused-only only in
+          let only = refused-iff _ (recoverCheck (h .code) (h .position) (h .word) area k v) 12 .0 e in
+          let (c, w, kn, vn, last) = recover-passed (h .code) (h .position) (h .word) area k v refused-only only in
+          let r = w .is-ready in
           record {
             cipher = c;
             code-is = r .code-is;
             sized = r .sized;
             within = r .within-limit;
+            word-is = w .word-is;
             key-long = kn;
             iv-long = vn;
             none-have = last-refused c area (h .position) (record { sized = r .sized; words = all }) .0 last;
@@ -126,8 +129,8 @@ refusal12 = record {
         s,
         area,
         (λ key iv kn vn.
-            recover-refused (headAt (codeOf c) p) s key iv (area .words)
-            (record { cipher = c; code-is = refl; sized = area .sized; within = l; key-long = kn; iv-long = vn; none-have = n })),
+            recover-refused (headAt (codeOf c) p (wordAt c s p)) s key iv (area .words)
+            (record { cipher = c; code-is = refl; sized = area .sized; within = l; word-is = refl; key-long = kn; iv-long = vn; none-have = n })),
         (λ lent z.
             load-refused (layout c p s) lent
             (record { cipher = c; position = p; tables = s; is-area = area; within = l; string-is = refl; sized = z; none-have = n })),

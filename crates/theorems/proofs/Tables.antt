@@ -14,14 +14,14 @@ use Rattle.cipher.proofs.Codes.{code-of}
 use Rattle.tables.specs.Area.{Area}
 use Rattle.tables.specs.Step.{step}
 use Rattle.keys.specs.Key.{Pair}
-use Rattle.steps.specs.Steps.{steps, stepsBack, stepsAt, moved}
+use Rattle.steps.specs.Steps.{steps, stepsBack, stepsAt, moved, wordAt}
 use Rattle.steps.proofs.Moved.{moved-up, moved-down}
 use Rattle.steps.proofs.Inverse.{steps-area, steps-back-area, steps-undone, steps-redone}
 use Rattle.setup.specs.SetUp.{setUp, found}
 use Rattle.setup.proofs.Inverse.{set-up-area, set-up-undone, set-up-redone}
 use Rattle.conditions.specs.Result.{accepted}
-use Rattle.conditions.specs.Conditions.{ready, undoAt}
-use Rattle.conditions.proofs.Conditions.{ready-accepted}
+use Rattle.conditions.specs.Conditions.{ready, readyWithWord, undoAt}
+use Rattle.conditions.proofs.Conditions.{ready-accepted, word-true}
 use Rattle.theorems.specs.Account.{Four, IsFour, tablesOf}
 
 -- ── moves ──
@@ -81,10 +81,16 @@ four-area f h = steps-area (f .cipher) _ 0 (stepsAt (f .position)) (set-up-area 
 pub four-sized : (f : Four) (s : List ℕ) → IsFour f → s ≡ tablesOf f → length s ≡ areaLength (f .cipher)
 four-sized f s h e = ap length e ∙ four-area f h .sized
 
--- its code, area and position are right
+-- its code, area and position are right, and so is its word
 pub four-ready : (f : Four) (area : List ℕ) → IsFour f → area ≡ tablesOf f → ready (codeOf (f .cipher)) (f .position) (length area) ≡ accepted (f .cipher)
 four-ready f area h e =
     ready-accepted (codeOf (f .cipher)) (f .position) (length area) (f .cipher) (code-of (f .cipher)) (four-sized f area h e) (h .within)
+
+pub four-true : (f : Four) (area : List ℕ) (w : ℕ) → IsFour f → area ≡ tablesOf f → w ≡ wordAt (f .cipher) (tablesOf f) (f .position)
+    → readyWithWord (codeOf (f .cipher)) (f .position) w area ≡ accepted (f .cipher)
+four-true f area w h e q =
+    word-true (codeOf (f .cipher)) (f .position) w area (f .cipher) (four-ready f area h e)
+    (q ∙ ap (λ (x : List ℕ). wordAt (f .cipher) x (f .position)) (sym e))
 
 pub four-moved : (f : Four) (q : ℕ) → IsFour f
     → moved (f .cipher) (tablesOf f) (f .position) q ≡ tablesOf (record { cipher = f .cipher; key = f .key; iv = f .iv; position = q })

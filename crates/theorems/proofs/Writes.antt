@@ -12,12 +12,11 @@ use Rattle.cipher.specs.declared.Cipher.{Cipher}
 use Rattle.checkpoint.specs.Checkpoint.{layout, lengthOf, putFirst}
 use Rattle.checkpoint.proofs.Checkpoint.{layout-length}
 use Rattle.conditions.specs.Result.{refused, accepted}
-use Rattle.conditions.specs.Conditions.{ready}
 use Rattle.engine.specs.declared.Head.{Head}
-use Rattle.engine.specs.Calls.{engineOf, Written, write}
+use Rattle.engine.specs.Calls.{engineOf, headReady, Written, write}
 use Rattle.theorems.specs.Demand3.{given}
 use Rattle.theorems.proofs.Results.{no-refusal, accepted-one, after-line, after-unless}
-use Rattle.theorems.proofs.Conditions.{ReadyShows, ready-shows}
+use Rattle.theorems.proofs.Conditions.{ReadyShows, word-shows}
 
 -- the layout of head and area is given, and head, area and later bytes stay
 pub record WriteShows (h : Head) (area lent : List ℕ) (w : Written) (c : Cipher) : Type 0 where
@@ -35,9 +34,9 @@ module _ (h : Head) (area lent : List ℕ) where
   pub write-shows : (w : Written) → write h area lent ≡ accepted w → (c : Cipher) × WriteShows h area lent w c
   unfolding write
   write-shows w e =
-      after-line (ready (h .code) (h .position) (length area)) _ e (λ _. no-refusal) λ c e₁ r₁.
+      after-line (headReady h area) _ e (λ _. no-refusal) λ c e₁ r₁.
       after-unless 8 (leb (lengthOf c (h .position)) (length lent)) _ r₁ no-refusal λ e₂ r₂.
-      let r = ready-shows (h .code) (h .position) (length area) c e₁ in
+      let r = word-shows (h .code) (h .position) (h .word) area c e₁ .is-ready in
       let string = layout c (h .position) area in
       let n : length string ≡ lengthOf c (h .position) = layout-length c (h .position) area (r .sized) in
       let g : given (writtenBy c) ≡ string = rw (← n) (take-append-seam string _) in
@@ -53,8 +52,8 @@ module _ (h : Head) (area lent : List ℕ) where
         },
       )
 
-  -- where code, area and position are right
-  module _ (c : Cipher) (e : ready (h .code) (h .position) (length area) ≡ accepted c) where
+  -- where code, area, position and word are right
+  module _ (c : Cipher) (e : headReady h area ≡ accepted c) where
     pub write-enough : lengthOf c (h .position) ≤ length lent → (w : Written) × (write h area lent ≡ accepted w)
     unfolding write
     write-enough l = (writtenBy c, rw (e, le-leb (lengthOf c (h .position)) (length lent) l))

@@ -12,9 +12,9 @@ use Rattle.steps.specs.Steps.{steps, stepsAt}
 use Rattle.setup.specs.SetUp as SetUp
 use Rattle.conditions.specs.Result.{Result, refused, accepted}
 use Rattle.conditions.specs.Limit.{limit}
-use Rattle.engine.specs.Head.{freshHead, headAt}
-use Rattle.conditions.specs.Conditions.{setUpCheck, cipherCheck, moveCheck, loadCheck}
-use Rattle.engine.specs.Calls.{Engine, engineOf, setUpCall, cipherCall, moveCall, writeCall, recoverCall, loadCall, spentCall}
+use Rattle.engine.specs.Head.{freshHead}
+use Rattle.conditions.specs.Conditions.{setUpCheck, ready, cipherCheck, moveCheck, loadCheck}
+use Rattle.engine.specs.Calls.{Engine, engineOf, engineAt, setUpCall, cipherCall, moveCall, writeCall, recoverCall, loadCall, spentCall}
 use Rattle.checkpoint.specs.Checkpoint.{layout}
 
 -- ── lists of calls ──
@@ -53,6 +53,16 @@ called e (call-recover key iv) = recoverCall (e .head) (e .area) key iv .value .
 called e (call-load string) = loadCall (e .head) string (e .area) .value .engine
 called e call-spent = engineOf (spentCall (e .head) .value .head) (e .area)
 
+-- the refusal number that a call answers then, 0 where it is accepted
+unfoldable pub answered : Engine → Call → ℕ
+answered e (call-set-up code key iv) = setUpCall (e .head) code key iv (e .area) .refusal
+answered e (call-cipher bytes) = cipherCall (e .head) (e .area) bytes .refusal
+answered e (call-move distance) = moveCall (e .head) (e .area) distance .refusal
+answered e (call-write lent) = writeCall (e .head) (e .area) lent .refusal
+answered e (call-recover key iv) = recoverCall (e .head) (e .area) key iv .refusal
+answered e (call-load string) = loadCall (e .head) string (e .area) .refusal
+answered e call-spent = spentCall (e .head) .refusal
+
 unfoldable pub run : List Call → Engine → Engine
 run [] e = e
 run (call ∷ calls) e = run calls (called e call)
@@ -85,6 +95,10 @@ abbrev pub accountPosition : Account → ℕ
 accountPosition empty = 0
 accountPosition (holds f) = f .position
 
+-- the conditions 1, 4 and 5, read so; there is no 13, since the account has no word and no tables
+abbrev pub accountReady : ℕ → Account → Result Cipher
+accountReady size a = ready (accountCode a) (accountPosition a) size
+
 -- the same cipher, key and IV at another position
 abbrev pub atPosition : Four → ℕ → Four
 atPosition f position = record { cipher = f .cipher; key = f .key; iv = f .iv; position = position }
@@ -104,10 +118,10 @@ feed size a (call-set-up code key iv) =
     unless-refused a (setUpCheck code (length key) (length iv) size)
     (λ c. holds (record { cipher = c; key = key; iv = iv; position = 0 }))
 feed size a (call-cipher bytes) =
-    unless-refused a (cipherCheck (accountCode a) (accountPosition a) size (length bytes))
+    unless-refused a (cipherCheck (accountReady size a) (accountPosition a) (length bytes))
     (λ c. at a (accountPosition a + length bytes))
 feed size a (call-move distance) =
-    unless-refused a (moveCheck (accountCode a) (accountPosition a) size distance) (λ m. at a (m .end))
+    unless-refused a (moveCheck (accountReady size a) (accountPosition a) distance) (λ m. at a (m .end))
 -- 'Load makes it the four whose checkpoint the string is': load's conditions find that four by undoing. `feed-load` of Demand3 says that it is the
 -- one whose checkpoint the string is, and `feed-else` that the account stays where the string is the checkpoint of none.
 feed size a (call-load string) =
@@ -134,9 +148,9 @@ accountAfter calls area = account (length area) calls empty
 unfoldable pub tablesOf : Four → List ℕ
 tablesOf f = steps (f .cipher) (SetUp.setUp (f .cipher) (f .key) (f .iv)) 0 (stepsAt (f .position))
 
--- the head of that code and position, and those tables
+-- those tables, and the head of that code and position with the word that the tables have there
 abbrev pub engineOfFour : Four → Engine
-engineOfFour f = engineOf (headAt (codeOf (f .cipher)) (f .position)) (tablesOf f)
+engineOfFour f = engineAt (codeOf (f .cipher)) (f .cipher) (f .position) (tablesOf f)
 
 unfoldable pub checkpointOf : Four → List ℕ
 checkpointOf f = layout (f .cipher) (f .position) (tablesOf f)

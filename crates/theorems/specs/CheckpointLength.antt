@@ -10,10 +10,9 @@ use Rattle.varint.specs.Number.{number}
 use Rattle.checkpoint.specs.Checkpoint.{lengthOf, longest}
 use Rattle.conditions.specs.Result.{refused, accepted}
 use Rattle.conditions.specs.Limit.{limit}
-use Rattle.conditions.specs.Conditions.{ready}
 use Rattle.engine.specs.declared.Head.{Head}
 use Rattle.engine.specs.Head.{headAt}
-use Rattle.engine.specs.Calls.{Written, write, checkpointLength}
+use Rattle.engine.specs.Calls.{Written, headReady, write, checkpointLength}
 use Rattle.theorems.specs.Demand3.{given}
 
 pub record CheckpointLength : Type 0 where
@@ -26,21 +25,21 @@ pub record CheckpointLength : Type 0 where
   -- written, and what checkpoint length gives for the head's code and position.
   pub returned :
       (h : Head) (area lent : List ℕ) (w : Written) (c : Cipher)
-      → ready (h .code) (h .position) (length area) ≡ accepted c → write h area lent ≡ accepted w
+      → headReady h area ≡ accepted c → write h area lent ≡ accepted w
       → (w .length ≡ lengthOf c (h .position)) × (w .length ≡ length (given w))
       × (checkpointLength (h .code) (h .position) ≡ accepted (w .length))
   -- What checkpoint length gives is at most 4,101 or 8,197.
   pub at-most : (c : Cipher) (position n : ℕ) → checkpointLength (codeOf c) position ≡ accepted n → n ≤ longest c
-  -- 'write's condition for 8 becomes fewer lent bytes than that': where none of 1, 4 and 5 is the answer, write takes that many bytes and more, ..
+  -- 'write's condition for 8 becomes fewer lent bytes than that': where none of 1, 4, 5 and 13 is the answer, write takes that many bytes and more, ..
   pub enough :
-      (h : Head) (area lent : List ℕ) (c : Cipher) → ready (h .code) (h .position) (length area) ≡ accepted c
+      (h : Head) (area lent : List ℕ) (c : Cipher) → headReady h area ≡ accepted c
       → ((w : Written) × (write h area lent ≡ accepted w)) ↔ (lengthOf c (h .position) ≤ length lent)
   -- .. and answers 8 to fewer.
   pub too-few :
-      (h : Head) (area lent : List ℕ) (c : Cipher) → ready (h .code) (h .position) (length area) ≡ accepted c
+      (h : Head) (area lent : List ℕ) (c : Cipher) → headReady h area ≡ accepted c
       → (write h area lent ≡ refused 8) ↔ (length lent < lengthOf c (h .position))
   -- 'An HC-128 checkpoint at position 0 fits in 4,098 bytes ..
   pub fits-in-4098 :
-      (area lent : List ℕ) → length area ≡ 1024 → length lent ≡ 4098 → (w : Written) × (write (headAt 1 0) area lent ≡ accepted w)
+      (area lent : List ℕ) → length area ≡ 1024 → length lent ≡ 4098 → (w : Written) × (write (headAt 1 0 0) area lent ≡ accepted w)
   -- .. and not in 4,097.'
-  pub not-in-4097 : (area lent : List ℕ) → length area ≡ 1024 → length lent ≡ 4097 → write (headAt 1 0) area lent ≡ refused 8
+  pub not-in-4097 : (area lent : List ℕ) → length area ≡ 1024 → length lent ≡ 4097 → write (headAt 1 0 0) area lent ≡ refused 8

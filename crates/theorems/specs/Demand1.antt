@@ -29,27 +29,27 @@ module _ {A : Type 0} where
   abbrev pub AcceptedOrRefused : (numbers : List ℕ) (old : A) (result : Result A) → Outcome A → Type 0
   AcceptedOrRefused numbers old result o = Accepted result o ⊎ Refused numbers old result o
 
--- Each call with its refusals in document 01's order, and with what it leaves where it is refused.
+-- Each call with its refusals in the documents' order, and with what it leaves where it is refused.
 pub record Demand1 : Type 0 where
   pub of-set-up :
       (h : Head) (code : ℕ) (key iv area : List ℕ)
       → AcceptedOrRefused (1 ∷ 2 ∷ 3 ∷ 4 ∷ []) (engineOf h area) (setUp code key iv area) (setUpCall h code key iv area)
   pub of-cipher :
       (h : Head) (area bytes : List ℕ)
-      → AcceptedOrRefused (1 ∷ 4 ∷ 5 ∷ 6 ∷ []) (record { engine = engineOf h area; bytes = bytes })
+      → AcceptedOrRefused (1 ∷ 4 ∷ 5 ∷ 13 ∷ 6 ∷ []) (record { engine = engineOf h area; bytes = bytes })
       (cipher h area bytes) (cipherCall h area bytes)
   pub of-move :
       (h : Head) (area : List ℕ) (distance : ℤ)
-      → AcceptedOrRefused (1 ∷ 4 ∷ 5 ∷ 7 ∷ 6 ∷ []) (engineOf h area) (move h area distance) (moveCall h area distance)
+      → AcceptedOrRefused (1 ∷ 4 ∷ 5 ∷ 13 ∷ 7 ∷ 6 ∷ []) (engineOf h area) (move h area distance) (moveCall h area distance)
   pub of-write :
       (h : Head) (area lent : List ℕ)
-      → AcceptedOrRefused (1 ∷ 4 ∷ 5 ∷ 8 ∷ []) (record { engine = engineOf h area; length = 0; lent = lent })
+      → AcceptedOrRefused (1 ∷ 4 ∷ 5 ∷ 13 ∷ 8 ∷ []) (record { engine = engineOf h area; length = 0; lent = lent })
       (write h area lent) (writeCall h area lent)
   pub of-checkpoint-length :
       (code position : ℕ) → AcceptedOrRefused (1 ∷ 5 ∷ []) 0 (checkpointLength code position) (checkpointLengthCall code position)
   pub of-recover :
       (h : Head) (area key iv : List ℕ)
-      → AcceptedOrRefused (1 ∷ 4 ∷ 5 ∷ 2 ∷ 3 ∷ 12 ∷ []) (record { engine = engineOf h area; key = key; iv = iv })
+      → AcceptedOrRefused (1 ∷ 4 ∷ 5 ∷ 13 ∷ 2 ∷ 3 ∷ 12 ∷ []) (record { engine = engineOf h area; key = key; iv = iv })
       (recover h area key iv) (recoverCall h area key iv)
   pub of-load :
       (h : Head) (string area : List ℕ)

@@ -20,8 +20,8 @@ use Rattle.engine.specs.Calls.{Engine, engineOf, Ciphered, setUp, cipher, move,
 use Rattle.theorems.specs.Account.{Call, AllGiven, Four, atPosition, empty, holds, engineAfter, accountAfter, engineOfFour}
 
 pub record Demand2 : Type 0 where
-  -- After every list whose account is a four, the head has that code and position and the tables are those of the four; where the account is empty,
-  -- head and area are what they were at first.
+  -- After every list whose account is a four, the head has that code and position and the word that the tables have there, and the tables are those of
+  -- the four; where the account is empty, head and area are what they were at first.
   pub state :
       (calls : List Call) → AllGiven calls → (area : List ℕ) (f : Four) → accountAfter calls area ≡ holds f
       → engineAfter calls area ≡ engineOfFour f
@@ -65,7 +65,7 @@ pub record Demand2 : Type 0 where
       ≡ accepted (record { engine = engineAfter calls area; key = f .key; iv = f .iv })
   -- Ciphering keeps the number of bytes.
   pub as-long : (h : Head) (area bytes : List ℕ) (r : Ciphered) → cipher h area bytes ≡ accepted r → length (r .bytes) ≡ length bytes
-  -- Where a move by d is accepted, so is the move back by -d, and it restores head and tables.
+  -- Where a move by d is accepted, so is the move back by -d, and it restores head, word included, and tables.
   pub moved-back :
       (h : Head) (area : List ℕ) (d : ℤ) (there : Engine) → AllWords area → move h area d ≡ accepted there
       → move (there .head) (there .area) (negℤ d) ≡ accepted (engineOf h area)

@@ -9,7 +9,7 @@ use Rattle.cipher.specs.Numbers.{codeOf, areaLength}
 use Rattle.conditions.specs.Result.{Result, accepted}
 use Rattle.engine.specs.Calls.{Written, Loaded, eightWords, write, load}
 use Rattle.checkpoint.specs.Checkpoint.{lengthOf, longest}
-use Rattle.theorems.specs.Account.{Call, AllGiven, Four, IsFour, Account, holds, feed, call-load, engineAfter, accountAfter, Checkpoint}
+use Rattle.theorems.specs.Account.{Call, AllGiven, answered, Four, IsFour, Account, holds, feed, call-load, engineAfter, accountAfter, Checkpoint}
 
 -- a write after a list of calls
 abbrev pub writeAfter : List Call → List ℕ → List ℕ → Result Written
@@ -44,6 +44,9 @@ pub record Demand3 : Type 0 where
       (calls : List Call) → AllGiven calls → (area lent : List ℕ) (f : Four)
       → accountAfter calls area ≡ holds f
       → ((w : Written) × (writeAfter calls area lent ≡ accepted w)) ↔ (lengthOf (f .cipher) (f .position) ≤ length lent)
+  -- Document 02 (a): a head with a false word is refused with 13, and 'this never happens in a list of demand 3'.
+  pub never-13 :
+      (calls : List Call) → AllGiven calls → (area : List ℕ) (call : Call) → answered (engineAfter calls area) call ≡ 13 → ⊥
   -- Every four is the account of some list, on every area of its cipher's size.
   pub reached :
       (f : Four) → IsFour f → (area : List ℕ) → length area ≡ areaLength (f .cipher)

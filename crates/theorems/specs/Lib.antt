@@ -8,3 +8,4 @@ pub mod Demand3
 pub mod Demand2
 pub mod Refusal12
 pub mod CheckpointLength
+pub mod HeadWord

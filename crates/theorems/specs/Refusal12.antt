@@ -9,7 +9,7 @@ use Rattle.cipher.specs.declared.Cipher.{Cipher}
 use Rattle.cipher.specs.Numbers.{codeOf, areaLength, keyLength, ivLength}
 use Rattle.tables.specs.Area.{Area}
 use Rattle.keys.specs.Key.{Pair}
-use Rattle.steps.specs.Steps.{steps, stepsAt}
+use Rattle.steps.specs.Steps.{steps, stepsAt, wordAt}
 use Rattle.setup.specs.SetUp as SetUp
 use Rattle.checkpoint.specs.Checkpoint.{layout}
 use Rattle.engine.specs.declared.Head.{Head}
@@ -28,6 +28,7 @@ pub record RecoverNone (h : Head) (area key iv : List ℕ) : Type 0 where
   pub code-is : h .code ≡ codeOf cipher
   pub sized : length area ≡ areaLength cipher
   pub within : h .position ≤ limit
+  pub word-is : h .word ≡ wordAt cipher area (h .position)
   pub key-long : length key ≡ keyLength cipher
   pub iv-long : length iv ≡ ivLength cipher
   pub none-have : NoneHave cipher area (h .position)
@@ -51,5 +52,5 @@ pub record Refusal12 : Type 0 where
   pub occurs :
       (c : Cipher) (p : ℕ) → p ≤ limit
       → (s : List ℕ) × Area c s
-      × ((key iv : List ℕ) → length key ≡ keyLength c → length iv ≡ ivLength c → recover (headAt (codeOf c) p) s key iv ≡ refused 12)
+      × ((key iv : List ℕ) → length key ≡ keyLength c → length iv ≡ ivLength c → recover (headAt (codeOf c) p (wordAt c s p)) s key iv ≡ refused 12)
       × ((area : List ℕ) → length area ≡ areaLength c → load (layout c p s) area ≡ refused 12)

@@ -175,7 +175,7 @@ fn encipher_blocks(head: Head, area: &mut [u32], blocks: usize) -> [u8; 64] {
 
 // Whether the stream of a key and an IV gives the expected words.
 fn gives(
-    code: u8,
+    code: u32,
     key: &[u8],
     iv: &[u8],
     area: &mut [u32],
@@ -190,7 +190,7 @@ fn gives(
 
 // The numbers of a cipher that a vector needs: its code, the bytes of its key and IV, and the words of its area.
 struct Sizes {
-    code: u8,
+    code: u32,
     key: usize,
     area: usize,
 }

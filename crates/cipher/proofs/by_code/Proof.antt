@@ -23,4 +23,4 @@ returns-3 c =
 
 pub by-code-spec : {M : Type 1} → statement M
 by-code-spec =
-    tie.close (tie.spec (λ c. search needs) returns (λ c. search needs) returns-2 returns-3)
+    tie.close (tie.spec (λ c. search needs) (λ c. search needs) returns (λ c. search needs) (λ c. search needs) returns-2 returns-3)

@@ -87,8 +87,8 @@ returns-7 c =
 
 pub load-check-spec : {M : Type 1} → statement M
 load-check-spec =
-    let a₁ = tie.spec (λ c κs. search needs) returns (λ c. search needs) (λ c κs. search needs) in
+    let a₁ = tie.spec (λ c κs. search needs) returns (λ c. search needs) (λ c. omega (arith, c .shared-slice-known2 .given 0)) (λ c κs. search needs) in
     let a₂ = a₁ (λ c. search needs) (λ c. search needs) (λ c κs. search needs) returns-2 (λ c κs. search needs) in
-    let a₃ = a₂ (λ c κs. search needs) returns-3 (λ c κs. search needs) (λ c κs. search needs) returns-4 in
+    let a₃ = a₂ (λ c κs. search needs) returns-3 (λ c κs. search needs) (λ c. search needs) (λ c κs. search needs) returns-4 in
     let a₄ = a₃ (λ c κs. search needs) returns-5 (λ c. omega (arith, next-in (c .before .before))) (λ c. search needs) (λ c κs. search needs) in
     tie.close (a₄ returns-6 returns-7)

@@ -18,16 +18,16 @@ returns-4 : tie.Need-returns-4
 returns-4 c = filter-256 _ _ _ (c .before .before .enum-told2 .given .1) (rw (c .before .if2 .left) (c .h-2562 .ensures))
 
 h-128-requires : tie.Need-h-128-requires
-h-128-requires c κs = (words-128 (c .before .enum-told .given .1) (c .before .before .before .before .pre), omega arith)
+h-128-requires c κs = omega (arith, words-128 (c .before .enum-told .given .1) (c .before .before .before .before .pre))
 
 h-128-requires-2 : tie.Need-h-128-requires-2
-h-128-requires-2 c κs = (words-128 (c .before .enum-told .given .1) (c .before .before .before .before .pre), omega arith)
+h-128-requires-2 c κs = omega (arith, words-128 (c .before .enum-told .given .1) (c .before .before .before .before .pre))
 
 h-256-requires : tie.Need-h-256-requires
-h-256-requires c κs = (words-256 (c .before .enum-told2 .given .1) (c .before .before .before .before .pre), omega arith)
+h-256-requires c κs = omega (arith, words-256 (c .before .enum-told2 .given .1) (c .before .before .before .before .pre))
 
 h-256-requires-2 : tie.Need-h-256-requires-2
-h-256-requires-2 c κs = (words-256 (c .before .enum-told2 .given .1) (c .before .before .before .before .pre), omega arith)
+h-256-requires-2 c κs = omega (arith, words-256 (c .before .enum-told2 .given .1) (c .before .before .before .before .pre))
 
 pub filter-spec : {M : Type 1} → statement M
 filter-spec =

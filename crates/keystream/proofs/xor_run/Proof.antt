@@ -9,10 +9,10 @@ use Rattle.keystream.proofs.xor_run.Statement.{statement}
 use Rattle.keystream.proofs.xor_run.Tie as tie
 
 abbrev Inv-loop : tie.InvT-loop
-Inv-loop cipher area₀ i bytes₀ start n p k m₀ area bytes m = Words cipher area₀ bytes₀ i start n area bytes m
+Inv-loop cipher area₀ i w bytes₀ start n p k last₀ m₀ area bytes last m = Words cipher area₀ bytes₀ i start n area bytes last m
 
 abbrev μ-loop : tie.MeasureT-loop
-μ-loop cipher area₀ i bytes₀ start n p k m₀ area bytes m = n - m
+μ-loop cipher area₀ i w bytes₀ start n p k last₀ m₀ area bytes last m = n - m
 
 add-word : tie.Need-add-word Inv-loop μ-loop
 add-word c =
@@ -41,7 +41,7 @@ loop-again c =
 
 pub xor-run-spec : {M : Type 1} → statement M
 xor-run-spec =
-    let a₁ = tie.spec Inv-loop μ-loop (λ c κs. search needs) (λ c κs. search needs) (λ c. words-start _ _ _ _ _ _) add-word word-requires in
+    let a₁ = tie.spec Inv-loop μ-loop (λ c κs. search needs) (λ c κs. search needs) (λ c. words-start _ _ _ _ _ _ (c .before .before .before .before .pre .2)) add-word word-requires in
     let a₂ = a₁ (λ c. search needs) (λ c. search needs) (λ c κs. search needs) (λ c. search needs) (λ c. search needs) loop-again in
     let a₃ = a₂ (λ c. c .before .loop .inv .0 .sized) (λ c. c .before .loop .inv .1 .sized) in
     tie.close (a₃ (λ c. words-end _ _ _ _ _ _ (c .before .loop .inv) (c .loop-test .left)))

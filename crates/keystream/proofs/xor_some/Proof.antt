@@ -10,7 +10,7 @@ xor-run-requires c κs =
     let m = c .before .before .before in
     let start = m .before .before .before .before in
     let room = m .smaller .ensures in
-    (start .pre .0, run-from-first _ _ _ _ (m .before .run-from .ensures) room (c .before .before .if1 .left), omega (arith, room, start .pre .2))
+    (start .pre .0, run-from-first _ _ _ _ (m .before .run-from .ensures) room (c .before .before .if1 .left), start .pre .2, omega (arith, room, start .pre .3))
 
 pub xor-some-spec : {M : Type 1} → statement M
 xor-some-spec =

@@ -36,4 +36,4 @@ returns-3 : tie.Need-returns-3
 returns-3 c = of-other _ (c .before .before .before .if1 .left) (λ e. c .if2 .left (e ∙ sym (c .before .code-of .ensures)))
 
 pub cipher-of-spec : {M : Type 1} → statement M
-cipher-of-spec = tie.close (tie.spec returns (λ c. search needs) (λ c κs. search needs) returns-2 returns-3)
+cipher-of-spec = tie.close (tie.spec returns (λ c. search needs) (λ c. omega (arith, c .shared-slice-known2 .given 0)) (λ c κs. search needs) returns-2 returns-3)

@@ -45,9 +45,17 @@ sixteen c = search needs
 words-fit : (c : tie.After-of-string) (k : ℕ) → Fits w32 (getD (c .of-string .result .words) k 0)
 words-fit c k = search needs
 
+word-at-requires : tie.Need-word-at-requires
+word-at-requires c κs =
+    let filled = c .before .before .before .before .before .before .before .before in
+    let begun = filled .before .before .before .before .before in
+    let beginning = begun .before .load-check .ensures in
+    let l = beginning .within (begun .if1 .left) in
+    (filled .read-words .kept .1 .1 .0 ∙ beginning .area-is (begun .if1 .left), omega arith)
+
 returns-3 : tie.Need-returns-3
 returns-3 c =
-    let coded = c .before .before .before in
+    let coded = c .before .before .before .before .before in
     let ived = coded .before in
     let keyed = ived .before in
     let filled = keyed .before .before .before .before .before .before in
@@ -55,15 +63,15 @@ returns-3 c =
     let beginning = begun .before .load-check in
     let found = filled .before .of-string in
     let w = found .result .words in
-    load-done _ _ _ _ _ _ (beginning .ensures .passed-is (begun .if1 .left)) _ _ _ _
+    load-done _ _ _ _ _ _ (beginning .ensures .passed-is (begun .if1 .left)) _ _ _ _ _
     (sym (found .ensures .filled-is) ∙ not-false _ (filled .if2 .left))
-    (c .at .ensures ∙ ap (λ (x : ℕ). headAt x (beginning .result .position)) (coded .code-of .ensures))
-    (keyed .before .before .before .read-words .ensures)
-    (key-words _ w _ (λ k. words-fit (filled .before) k .fits) (sixteen (filled .before)) (found .ensures .words-are) _ _ (keyed .key-bytes .ensures .0) (c .before .before .eight-words .ensures))
-    (iv-words _ w _ (λ k. words-fit (filled .before) k .fits) (sixteen (filled .before)) (found .ensures .words-are) _ _ (ived .iv-bytes .ensures .0) (c .before .eight-words2 .ensures))
+    (c .at .ensures ∙ ap (λ (x : ℕ). headAt x (beginning .result .position) (c .before .word-at .result)) (coded .code-of .ensures))
+    (keyed .before .before .before .read-words .ensures) (c .before .word-at .ensures)
+    (key-words _ w _ (λ k. words-fit (filled .before) k .fits) (sixteen (filled .before)) (found .ensures .words-are) _ _ (keyed .key-bytes .ensures .0) (c .before .before .before .before .eight-words .ensures))
+    (iv-words _ w _ (λ k. words-fit (filled .before) k .fits) (sixteen (filled .before)) (found .ensures .words-are) _ _ (ived .iv-bytes .ensures .0) (c .before .before .before .eight-words2 .ensures))
 
 pub load-spec : {M : Type 1} → statement M
 load-spec =
     let a₁ = tie.spec (λ c κs. search needs) (λ c κs. search needs) returns of-string-requires (λ c κs. search needs) in
     let a₂ = a₁ returns-2 read-words-requires (λ c κs. search needs) (λ c κs. search needs) (λ c κs. search needs) in
-    tie.close (a₂ (λ c κs. search needs) (λ c κs. search needs) (λ c κs. search needs) (λ c. search needs) returns-3)
+    tie.close (a₂ (λ c κs. search needs) (λ c κs. search needs) word-at-requires (λ c κs. search needs) (λ c. search needs) returns-3)

@@ -9,4 +9,4 @@ pub sets-up-spec : {M : Type 1} → statement M
 sets-up-spec =
     let a₁ = tie.spec (λ c κs. tt) (λ c. search needs) (λ c κs. tt) (λ c. search needs) (λ c κs. tt) (λ c κs. tt) in
     let a₂ = a₁ (λ c. search needs) (λ c. simp length-take (omega arith)) (λ c. search needs) in
-    tie.close (a₂ (λ c. simp length-take (omega arith)) (λ c κs. tt) (λ c κs. tt) (λ c. search needs) (λ c. tt))
+    tie.close (a₂ (λ c. simp length-take (omega arith)) (λ c κs. tt) (λ c κs. tt) (λ c κs. tt) (λ c. search needs) (λ c. tt))

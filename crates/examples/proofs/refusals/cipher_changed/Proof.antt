@@ -1,12 +1,12 @@
--- `refusals::write_case` meets its contract: the parts lie within the arrays. Assumes nothing.
+-- `refusals::cipher_changed` meets its contract: the parts lie within the arrays. Assumes nothing.
 use native.Mathlib.Omega.{arith}
 use borrow.Author.Needs.{needs}
 use lib.ListN.{length-take}
-use Rattle.examples.proofs.refusals.write_case.Statement.{statement}
-use Rattle.examples.proofs.refusals.write_case.Tie as tie
+use Rattle.examples.proofs.refusals.cipher_changed.Statement.{statement}
+use Rattle.examples.proofs.refusals.cipher_changed.Tie as tie
 
-pub write-case-spec : {M : Type 1} → statement M
-write-case-spec =
+pub cipher-changed-spec : {M : Type 1} → statement M
+cipher-changed-spec =
     let a₁ = tie.spec (λ c. search needs) (λ c κs. tt) (λ c. search needs) (λ c κs. tt) (λ c. search needs) in
     let a₂ = a₁ (λ c. simp length-take (omega arith)) (λ c. search needs) (λ c. simp length-take (omega arith)) in
     tie.close (a₂ (λ c κs. tt) (λ c κs. tt) (λ c. tt))

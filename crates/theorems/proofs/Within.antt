@@ -1,0 +1,116 @@
+-- The numbers that the refusals of a block are among: those of its lines. Assumes nothing.
+use mathlib.Core.Path.{_≡_, refl, sym}
+use mathlib.Core.Bool.{Bool, true, false, cond}
+use mathlib.Core.Option.{Option, none, some}
+use mathlib.Core.List.{List, [], _∷_, List·Memᴰ, List·Memᴰ·head, List·Memᴰ·tail}
+use mathlib.Core.Logic.{inl, inr}
+use Prim.Native.Nat.{ℕ}
+use native.Mathlib.Omega.{arith}
+use borrow.Author.Tests.{eq-eqb}
+use lib.Dec.{eqb, leb}
+use lib.IntN.{ℤ, pos, negsuc}
+use lib.ListN.{length}
+use Rattle.cipher.specs.Numbers.{byCode, areaLength}
+use Rattle.steps.specs.Steps.{wordAt}
+use Rattle.setup.specs.SetUp as SetUp
+use Rattle.setup.specs.SetUp.{Undone}
+use Rattle.varint.specs.Number.{Reading, is, ended, malformed}
+use Rattle.conditions.specs.Result.{Result, refused, accepted, outcome, _>>=_, _>>_, refuse_unless_, refuse_without_}
+use Rattle.conditions.specs.Limit.{limit}
+use Rattle.conditions.specs.Conditions.{ready, readyWithWord, headCheck, within, foundOr12, positionRead}
+use Rattle.theorems.specs.Demand1.{AcceptedOrRefused}
+use Rattle.theorems.proofs.Results.{no-refusal}
+
+-- the refusal of a result, if it is one, is one of these numbers
+pub data Within {A : Type 0} (numbers : List ℕ) : Result A → Type 0 where
+  by-one : {n : ℕ} → List·Memᴰ n numbers → Within numbers (refused n)
+  by-none : {a : A} → Within numbers (accepted a)
+
+-- a number that stands in a list
+module _ {n : ℕ} {l : List ℕ} where
+  pub first : List·Memᴰ n (n ∷ l)
+  first = List·Memᴰ·head refl
+
+  pub after : {m : ℕ} → List·Memᴰ n l → List·Memᴰ n (m ∷ l)
+  after = List·Memᴰ·tail
+
+-- ── a block is within where its lines are ──
+
+module _ {numbers : List ℕ} where
+  pub then-line : {A B : Type 0} (r : Result A) (f : A → Result B) → Within numbers r → ((a : A) → Within numbers (f a)) → Within numbers (r >>= f)
+  then-line (refused n) f (by-one h) k = by-one h
+  then-line (accepted a) f h k = k a
+
+  pub line-unless : {B : Type 0} (n : ℕ) (t : Bool) (q : Result B) → List·Memᴰ n numbers → Within numbers q → Within numbers ((refuse n unless t) >> q)
+  line-unless n true q h k = k
+  line-unless n false q h k = by-one h
+
+  pub line-without : {A B : Type 0} (n : ℕ) (o : Option A) (f : A → Result B) → List·Memᴰ n numbers → ((a : A) → Within numbers (f a))
+      → Within numbers ((refuse n without o) >>= f)
+  line-without n none f h k = by-one h
+  line-without n (some a) f h k = k a
+
+  pub first-line : {A B : Type 0} (r : Result A) (q : Result B) → Within numbers r → Within numbers q → Within numbers (r >> q)
+  first-line (refused n) q (by-one h) k = by-one h
+  first-line (accepted a) q h k = k
+
+  -- where a result is within the numbers, its outcome is an answer with one of them
+  pub answers : {A : Type 0} (old : A) (r : Result A) → Within numbers r → AcceptedOrRefused numbers old r (outcome old r)
+  answers old (refused n) (by-one h) = inr (record { number = n; one-of = h; result-is = refl; outcome-is = refl })
+  answers old (accepted new) h = inl (record { new = new; result-is = refl; outcome-is = refl })
+
+  -- ── conditions that several calls share ──
+
+  pub ready-within : (code position size : ℕ) → List·Memᴰ 1 numbers → List·Memᴰ 4 numbers → List·Memᴰ 5 numbers → Within numbers (ready code position size)
+  unfolding ready
+  ready-within code position size a b c =
+      line-without 1 (byCode code) _ a λ x. line-unless 4 (eqb size (areaLength x)) _ b (line-unless 5 (leb position limit) _ c by-none)
+
+  pub word-within : (code position word : ℕ) (area : List ℕ) → List·Memᴰ 1 numbers → List·Memᴰ 4 numbers → List·Memᴰ 5 numbers → List·Memᴰ 13 numbers
+      → Within numbers (readyWithWord code position word area)
+  unfolding readyWithWord
+  word-within code position word area a b c d =
+      then-line (ready code position (length area)) _ (ready-within code position (length area) a b c) λ x.
+      line-unless 13 (eqb word (wordAt x area position)) _ d by-none
+
+  pub head-within : (code position : ℕ) → List·Memᴰ 1 numbers → List·Memᴰ 5 numbers → Within numbers (headCheck code position)
+  unfolding headCheck
+  head-within code position a b = line-without 1 (byCode code) _ a λ x. line-unless 5 (leb position limit) _ b by-none
+
+  pub found-within : (u : Undone) → List·Memᴰ 12 numbers → Within numbers (foundOr12 u)
+  found-within SetUp.none h = by-one h
+  found-within (SetUp.found key iv) h = by-none
+
+  pub end-within : (z : ℤ) → List·Memᴰ 7 numbers → List·Memᴰ 6 numbers → Within numbers (within z)
+  end-within (negsuc n) a b = by-one a
+  end-within (pos n) a b = line-unless 6 (leb n limit) _ b by-none
+
+  pub position-within : (f : Reading) → List·Memᴰ 9 numbers → List·Memᴰ 10 numbers → Within numbers (positionRead f)
+  position-within (is value rest) a b = by-none
+  position-within ended a b = by-one a
+  position-within malformed a b = by-one b
+
+-- ── a number that is not among them is not the refusal ──
+
+-- whether a number stands in a list
+abbrev pub among : ℕ → List ℕ → Bool
+among n [] = false
+among n (m ∷ l) = cond (eqb n m) true (among n l)
+
+true-false : {C : Type 0} {b : Bool} → b ≡ true → b ≡ false → C
+true-false p q = let z : _≡_ {A = ℕ} 0 1 = cc in absurd (omega arith)
+
+either-true : (a b : Bool) → b ≡ true → cond a true b ≡ true
+either-true true b e = refl
+either-true false b e = e
+
+is-among : (n : ℕ) (l : List ℕ) → List·Memᴰ n l → among n l ≡ true
+is-among n (m ∷ l) (List·Memᴰ·head e) = rw (eq-eqb n m e)
+is-among n (m ∷ l) (List·Memᴰ·tail h) = either-true (eqb n m) (among n l) (is-among n l h)
+
+pub not-among : (n : ℕ) (l : List ℕ) → List·Memᴰ n l → among n l ≡ false → ⊥
+not-among n l h e = true-false (is-among n l h) e
+
+pub within-not : {A : Type 0} (n : ℕ) (numbers : List ℕ) (r : Result A) → Within numbers r → among n numbers ≡ false → r ≡ refused n → ⊥
+within-not n numbers (refused m) (by-one h) e q = let z : m ≡ n = cc in not-among n numbers (rw z at h) e
+within-not n numbers (accepted a) h e q = no-refusal q
