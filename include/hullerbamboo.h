@@ -13,21 +13,25 @@
  *   - Of what you lend to one call (head, area, bytes, buffers), nothing that the call writes may overlap anything else. It writes to what is
  *     not const. Inputs that are const may overlap one another.
  *   - While a call runs, no other thread, interrupt or signal handler writes what you lent, or reads what the call writes.
- *   - Keep a head with its own area, and copy both between the same two calls. Refusal 13 notices some of what goes wrong here, and not all: see below.
+ *   - Keep a head with its own area, and copy both between the same two calls. Refusal 13 notices some of what goes wrong here, and not all.
  *   - Never encipher two texts at the same positions under one key and IV. Loading a checkpoint twice, or moving back, brings you there.
  *
- * Secret: the key, the area, a checkpoint, and what hc_load returns. The area and a checkpoint are as secret as the key, since hc_recover finds
- * the key in them. hc_load and hc_recover work on a copy of the tables on the stack, and no call wipes its stack. The word of a head is keystream: who knows
- * it can read up to four bytes of the log.
+ * Secret: the key, the area, a checkpoint, what hc_load returns, and the word of a head, which is four bytes of keystream from position 1 on. The
+ * area and a checkpoint are as secret as the key, since hc_recover finds the key in them. hc_load and hc_recover work on a copy of the tables on the
+ * stack, and no call wipes its stack.
  *
- * Refusal 13: a head's word is the output of the step last taken, from which the bytes of the present word of keystream come, and 0 at position 0.
- * hc_cipher, hc_move, hc_write and hc_recover work it out from the area and compare. So a head with an area of an earlier position is noticed, as soon as
- * a word of keystream begins between the two positions: the area lacks the head's last step. These are not noticed:
- *   - a head with an area of a later position, as long as the later steps have not changed a table word that the output is made of: to the end of the
- *     turn of 512 (HC-128) or 1,024 (HC-256) words in which the head's step lies, less twelve words where the step is among the turn's first twelve,
- *     and else up to 255 words into the next turn;
+ * Refusal 13: each step changes one word of the area and makes one word, four bytes, of keystream. A head's word is the one that the last step
+ * made, and 0 at position 0. hc_cipher, hc_move, hc_write and hc_recover work it out from the area and compare. So a head with an area of an
+ * earlier position is noticed as soon as a word of keystream begins between the two positions, for the area lacks the head's last step. Not
+ * noticed are, among others:
+ *   - a head with an area of a later position, as long as no later step has changed one of the four (HC-128) or six (HC-256) words of the area
+ *     that the head's word is made of: mostly to the end of the turn of 512 (HC-128) or 1,024 (HC-256) words of keystream in which the head's
+ *     step lies, and up to 255 words beyond;
+ *   - other damage to the area that leaves those words as they are;
  *   - a head at position 0 with any area, since the word is 0 there whatever the area holds;
- *   - two words that are equal by chance: once in 2^32, or once in 2^16 where only two bytes of a changed word count.
+ *   - a position that is wrong by a multiple of 4,096 (HC-128) or 8,192 (HC-256) bytes, or inside one word;
+ *   - two words that are equal by chance.
+ * The full test of an area is hc_recover, whose refusal 12 means that no key and IV have these tables; it takes every step back to set up.
  *
  * Nothing here is authenticated: hc_load refuses a damaged checkpoint whose tables have no key and IV, and that is all it can tell.
  *
@@ -79,9 +83,9 @@ enum hc_refusal {
 
 /* A head. Start with { 0, 0, 0 }; only the calls below change it. */
 struct hc_head {
-    uint32_t code;
-    uint32_t word;
-    uint64_t position;
+    uint32_t code;     /* 0 before set up or load, then HC_128 or HC_256 */
+    uint32_t word;     /* the word of keystream that the last step made, 0 at position 0 */
+    uint64_t position; /* in bytes, 0 to HC_LIMIT */
 };
 
 /* What hc_checkpoint_length and hc_write return. length is 0 where the call is refused. */
@@ -124,8 +128,8 @@ uint64_t hc_move(struct hc_head *head, uint32_t *area, size_t area_words, int64_
  * Refusals: 1, 5. Stack: 0 bytes. */
 struct hc_length hc_checkpoint_length(uint32_t code, uint64_t position);
 
-/* Write: puts the checkpoint of head and area at the start of the lent bytes and returns its length; later bytes, area and head stay. Lend at least the
- * length that hc_checkpoint_length gives for the head's code and position.
+/* Write: puts the checkpoint of head and area at the start of the lent bytes and returns its length; later bytes, area and head stay. Lend at least
+ * the length that hc_checkpoint_length gives for the head's code and position.
  * Refusals: 1, 4, 5, 13, 8. Stack: 192 bytes. */
 struct hc_length hc_write(struct hc_head *head, const uint32_t *area, size_t area_words, uint8_t *lent, size_t lent_bytes);
 
@@ -133,8 +137,9 @@ struct hc_length hc_write(struct hc_head *head, const uint32_t *area, size_t are
  * Refusals: 1, 4, 5, 13, 2, 3, 12. Stack: 8,672 bytes. */
 uint64_t hc_recover(struct hc_head *head, const uint32_t *area, size_t area_words, uint8_t *key, size_t key_bytes, uint8_t *iv, size_t iv_bytes);
 
-/* Load: fills area and head from a checkpoint, whatever the head was, and returns its key and IV. The area must already have the size for the checkpoint's cipher. string is
- * the checkpoint and no byte more. Before it accepts, it takes every step back to set up and checks the key and IV that it finds there.
+/* Load: fills area and head from a checkpoint, whatever the head was, and returns its key and IV. The area must already have the size for the
+ * checkpoint's cipher. string is the checkpoint and no byte more. Before it accepts, it takes every step back to set up and checks the key and IV
+ * that it finds there.
  * Refusals: 9, 1, 4, then for the position 10 or 9, then 5, 11, 12. Stack: 8,824 bytes. */
 struct hc_words hc_load(struct hc_head *head, uint32_t *area, size_t area_words, const uint8_t *string, size_t string_bytes);
 

@@ -551,7 +551,8 @@ fn codes(random: &mut Random, cipher: Cipher, tally: &mut Tally) -> Result<(), S
 
 /// The story of request (a). Where an area is copied, then two cipher calls of two or three bytes are made, and then the head is
 /// copied, cipher, move, write and recover notice it. Where the head is copied first and the area last, write does not notice it
-/// as long as both are of one turn; the checkpoint that it gives cannot be loaded.
+/// as long as both are of one turn and the head's step is not among its first twelve; the checkpoint that it gives cannot be
+/// loaded.
 fn copied_apart(random: &mut Random, cipher: Cipher, tally: &mut Tally) -> Result<(), String> {
     let words = cipher.area_words();
     let table = cipher.table_words() as u64;
@@ -593,20 +594,20 @@ fn copied_apart(random: &mut Random, cipher: Cipher, tally: &mut Tally) -> Resul
 
 /// An area of later steps with an older head is accepted until a table word has changed of which the head's output is made. From
 /// step 12 of a turn on, the rest of the turn changes none, and the next turn first changes the one that the lowest byte of
-/// A[j-12] names.
+/// A[j-12] names. For the first twelve steps the turn itself changes A[j-12], at its end.
 fn areas_of_later_steps(random: &mut Random, cipher: Cipher, tally: &mut Tally) -> Result<(), String> {
     let words = cipher.area_words();
     let table = cipher.table_words();
     for turn in 0..4 {
-        for (j, byte) in [(12, 200), (13, 0), (table / 2, 255), (table - 2, 7), (table - 1, 0), (table - 1, 1)] {
+        for (j, byte) in [(0, 0), (11, 0), (12, 200), (13, 0), (table / 2, 255), (table - 2, 7), (table - 1, 0), (table - 1, 1)] {
             let mut area = random.words(words);
-            let read = (turn % 2) * table + j - 12;
+            let read = (turn % 2) * table + (j + table - 12) % table;
             area[read] = area[read] & 0xFFFF_FF00 | byte as u32;
             let position = (4 * (turn * table + j)) as u64 + random.between(1, 4);
             let mut both = made_up(cipher, position, area, tally);
             let (older, mut newer) = (both.head, both.head);
-            let last_unnoticed = table - 1 - j + byte;
-            for steps in [0, 1, table - 1 - j, last_unnoticed, last_unnoticed + 1] {
+            let last_unnoticed = if j < 12 { table - 13 } else { table - 1 - j + byte };
+            for steps in [0, 1, last_unnoticed - byte, last_unnoticed, last_unnoticed + 1] {
                 let end = position + 4 * steps as u64;
                 let case = format!("head at {position}, area {steps} steps later");
                 both.put_head(newer);
@@ -622,7 +623,7 @@ fn areas_of_later_steps(random: &mut Random, cipher: Cipher, tally: &mut Tally) 
             }
             // A move back takes steps back, so an area copied before it is one of later steps, too.
             both.put_head(newer);
-            expect("move back to the end of the turn", both.move_by(words, -4 * (byte as i64 + 1)), Ok(()))?;
+            expect("move back by the steps that changed such a word", both.move_by(words, -4 * (byte as i64 + 1)), Ok(()))?;
             let area_copied = both.area.clone();
             let distance = both.head.position - position;
             expect("move back in the turn", both.move_by(words, -(distance as i64)), Ok(()))?;

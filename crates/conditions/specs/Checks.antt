@@ -47,17 +47,18 @@ pub record Sized (r : Checked) (key iv size : ℕ) : Type 0 where
   pub iv-is : r .refusal ≡ 0 → iv ≡ ivLength (r .cipher)
   pub area-is : r .refusal ≡ 0 → size ≡ areaLength (r .cipher)
 
+-- where 1, 4 and 5 hold: the area has the cipher's size, and the position is within the limit
 pub record Ready (r : Checked) (position size : ℕ) : Type 0 where
   pub beside : (r .refusal ≡ 0 → ⊥) → r .cipher ≡ Hc128
   pub area-is : r .refusal ≡ 0 → size ≡ areaLength (r .cipher)
   pub within : r .refusal ≡ 0 → position ≤ limit
 
--- what the conditions 1, 4, 5 and 13 say besides of the word, where they hold
+-- where 1, 4, 5 and 13 hold: what `Ready` says, and that the word is the one that the tables have
 pub record ReadyWithWord (r : Checked) (position word : ℕ) (area : List ℕ) : Type 0 where
   pub is-ready : Ready r position (length area)
   pub word-is : r .refusal ≡ 0 → word ≡ wordAt (r .cipher) area position
 
--- the same of the conditions of a head alone
+-- where 1 and 5, the conditions of a head alone, hold: the position is within the limit
 pub record HeadReady (r : Checked) (position : ℕ) : Type 0 where
   pub beside : (r .refusal ≡ 0 → ⊥) → r .cipher ≡ Hc128
   pub within : r .refusal ≡ 0 → position ≤ limit

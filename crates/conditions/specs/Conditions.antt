@@ -1,7 +1,6 @@
 -- Document 01, 'Calls, with their refusals in order': the conditions that engine and account share, those of recover, and those of a head alone,
--- which spent and checkpoint length have, as functions of code, position, the area's size and the other arguments. The engine reads them with the
--- head's code and position, the account of demand 3 with its own. Document 02 (a) puts 13 straight after 5, in the engine only: the account has no word
--- and no tables. Write's 8 is in the engine's Calls.
+-- which spent and checkpoint length have. The engine reads them with the head's code, position and word and with the tables; the account of demand 3 with
+-- its own code and position and the area's size, and so without the 13 that document 02 (a) puts straight after 5. Write's 8 is in the engine's Calls.
 use mathlib.Core.List.{List, [], _∷_}
 use mathlib.Core.Option.{Option, none, some}
 use Prim.Native.Nat.{ℕ, _+_, _*_}
@@ -50,7 +49,7 @@ headCheck code position = do
   refuse 5 unless leb position limit
   accepted c
 
--- **Cipher** 1, 4, 5 and in the engine 13, which are `begun`. 6: the end would pass the limit.
+-- **Cipher** `begun` is the result of the conditions before: 1, 4, 5, and in the engine 13. 6: the end would pass the limit.
 unfoldable pub cipherCheck : (begun : Result Cipher) (position n : ℕ) → Result Cipher
 cipherCheck begun position n = do
   c ← begun
@@ -67,7 +66,7 @@ within (pos n) = do
 unfoldable pub endOf : ℕ → ℤ → Result ℕ
 endOf position distance = within (pos position +ℤ distance)
 
--- **Move** 1, 4, 5 and in the engine 13, which are `begun`. 7, 6.
+-- **Move** `begun` is the result of the conditions before: 1, 4, 5, and in the engine 13. 7, 6.
 pub record Course : Type 0 where
   pub cipher : Cipher
   pub end : ℕ

@@ -29,7 +29,7 @@ engineOf head area = record { head = head; area = area }
 abbrev pub engineAt : (code : ℕ) → Cipher → (position : ℕ) → List ℕ → Engine
 engineAt code c position area = engineOf (headAt code position (wordAt c area position)) area
 
--- the conditions that cipher, move and write begin with, of a head and its area: 1, 4, 5, 13
+-- the conditions that cipher, move and write begin with, of a head and its area: 1, 4, 5, 13. Recover begins with them in `recoverCheck`.
 abbrev pub headReady : Head → List ℕ → Result Cipher
 headReady h area = readyWithWord (h .code) (h .position) (h .word) area
 

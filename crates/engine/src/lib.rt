@@ -16,7 +16,8 @@ use answers::SpentAnswer;
 use answers::SpentDone;
 use answers::WriteDone;
 
-// The head: cipher code, the word we are inside, and position, in an order that needs no padding. Heads are made by the constructors below.
+// The head: cipher code, the word we are inside, which is the output of the step last taken and 0 at position 0, and position. The order needs no
+// padding. Heads are made by the constructors below.
 #[repr(C)]
 pub struct Head {
     pub code: u32,

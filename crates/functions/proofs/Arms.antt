@@ -23,11 +23,11 @@ module _ {c : Cipher} (s : List ℕ) (p : Bool) where
   feedback-256 back w x y z e f g h = f ∙ ap (put back w) (rw e (g ∙ ap (λ (v : ℕ). y ⊞ v) h))
 
   pub filter-128 : (x : ℕ) {h : ℕ} → c ≡ Hc128 → h ≡ h128 (table s (startB 512 p)) x → h ≡ filterOf c p s x
-  unfolding filterOf
+  unfolding filterOf hOf
   filter-128 x e f = rw e f
 
   pub filter-256 : (x : ℕ) {h : ℕ} → c ≡ Hc256 → h ≡ h256 (table s (startB 1024 p)) x → h ≡ filterOf c p s x
-  unfolding filterOf
+  unfolding filterOf hOf
   filter-256 x e f = rw e f
 
 module _ {c : Cipher} where

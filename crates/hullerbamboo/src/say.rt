@@ -90,11 +90,14 @@ fn put_meaning(fd: i32, refusal: u64) {
         12 => {
             io::write_all(fd, b"no key and IV have these tables at this position");
         }
-        _ => {
+        13 => {
             io::write_all(
                 fd,
                 b"the word of the head is not the one that the tables have at this position",
             );
+        }
+        _ => {
+            io::write_all(fd, b"a refusal that this program does not know");
         }
     }
 }

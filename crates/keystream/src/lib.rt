@@ -91,7 +91,7 @@ fn xor_one(cipher: Cipher, area: &mut [u32], i: usize, bytes: &mut [u8], start: 
 }
 
 // How many words are done, and the last output.
-struct Done {
+struct Taken {
     words: usize,
     last: u32,
 }
@@ -105,7 +105,7 @@ fn xor_some(
     bytes: &mut [u8],
     start: usize,
     n: usize,
-) -> Done
+) -> Taken
     requires { ⌜
         (length (now area) ≡ areaLength cipher) × (0 < n)
         × (w ≡ lastOutput cipher (now area) i) × (start + 4 * n ≤ length (now bytes)) ⌝ }
@@ -116,13 +116,13 @@ fn xor_some(
     let m = steps::smaller(n, runs::run_from(cipher, i));
     if m == 0 {
         let one = xor_one(cipher, area, i, bytes, start);
-        return Done {
+        return Taken {
             words: 1,
             last: one,
         };
     }
     let last = xor_run(cipher, area, i, w, bytes, start, m);
-    Done {
+    Taken {
         words: m,
         last: last,
     }

@@ -12,7 +12,7 @@ use Rattle.word.specs.Word.{_⊕_}
 use Rattle.cipher.specs.declared.Cipher.{Cipher}
 use Rattle.cipher.specs.declared.Cipher.the-variants.{Hc128, Hc256}
 use Rattle.cipher.specs.Numbers.{tableLength, areaLength}
-use Rattle.functions.specs.ByCipher.{feedbackOf, filterOf}
+use Rattle.functions.specs.ByCipher.{feedbackOf, hOf, filterOf}
 use Rattle.tables.specs.Area.{changesP, startA}
 use Rattle.tables.specs.Step.{feedback, filter, place, step, stepBack, output}
 use Rattle.tables.proofs.Places.{place-is}
@@ -43,7 +43,7 @@ feedback-at Hc256 k a e =
     rw (e, before Hc256 k 3 a (omega arith) (omega arith), before Hc256 k 10 a (omega arith) (omega arith), after Hc256 k a, a .half) refl
 
 pub filter-at : (c : Cipher) {s : List ℕ} {p : Bool} (k : ℕ) → At c s p k → filterOf c p s (getD s (k - 12) 0) ≡ filter c s k
-unfolding filterOf filter
+unfolding filterOf hOf filter
 filter-at Hc128 k a = rw (before Hc128 k 12 a (omega arith) (omega arith), a .half) refl
 filter-at Hc256 k a = rw (before Hc256 k 12 a (omega arith) (omega arith), a .half) refl
 

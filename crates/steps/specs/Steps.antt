@@ -1,4 +1,4 @@
--- Many steps of a cipher, forward and back, and how many a byte position stands for.
+-- Many steps of a cipher, forward and back, how many a byte position stands for, and the word of a position.
 use mathlib.Core.Bool.{cond}
 use mathlib.Core.List.{List}
 use Prim.Native.Nat.{ℕ, zero, suc, _+_, _-_, _/_}

@@ -8,7 +8,7 @@ use Rattle.word.specs.Word.{_⊞_, _⊟_}
 use Rattle.cipher.specs.declared.Cipher.{Cipher}
 use Rattle.cipher.specs.declared.Cipher.the-variants.{Hc128, Hc256}
 use Rattle.cipher.specs.Numbers.{tableLength}
-use Rattle.functions.specs.ByCipher.{feedbackOf, filterOf}
+use Rattle.functions.specs.ByCipher.{feedbackOf, hOf, filterOf}
 use Rattle.tables.specs.declared.Indices.{Indices}
 use Rattle.tables.specs.Area.{changesP, startA, indicesAt}
 use Rattle.tables.specs.Step.{feedback, filter, place, step, stepBack}
@@ -23,7 +23,7 @@ feedback-read Hc256 s i e f g h = rw (h, g, f, e) refl
 pub filter-read : (c : Cipher) (s : List ℕ) (i : ℕ) {t a : ℕ} {p : Bool} {x : Indices}
     → t ≡ tableLength c → p ≡ changesP (tableLength c) i → a ≡ startA t p → x ≡ indicesAt t i
     → filterOf c p s (getD s (a + x .minus12) 0) ≡ filter c s i
-unfolding filterOf filter
+unfolding filterOf hOf filter
 filter-read Hc128 s i e f g h = rw (h, g, f, e) refl
 filter-read Hc256 s i e f g h = rw (h, g, f, e) refl
 

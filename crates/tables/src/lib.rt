@@ -127,8 +127,8 @@ pub fn word(cipher: Cipher, area: &mut [u32], i: usize) -> u32
     output(cipher, area, i)
 }
 
-// The output word of step i, from the area after it, as `output` gives it, in the fewest operations: it is worked out in each call that compares the
-// head's word. Both lengths are powers of two, so that & takes the remainders, and 1,012 is 12 below a multiple of either table's length.
+// The output word of step i, from the area after it, as `output` gives it, in fewer operations: it is worked out in each call that compares the head's
+// word. T and 2T are powers of two, so that & takes the remainders; 1,012 is 1,024 - 12, so that adding it goes 12 back modulo 512 and modulo 1,024.
 pub fn output_again(cipher: Cipher, area: &[u32], i: usize) -> u32
     requires { ⌜ length (now area) ≡ areaLength cipher ⌝ }
     ensures { λ r. ⌜ r ≡ Step.output cipher (now (area .entry)) i ⌝ }

@@ -13,7 +13,7 @@ use Rattle.steps.specs.Steps.{wordAt}
 use Rattle.conditions.specs.Result.{Result, refused, accepted}
 use Rattle.conditions.specs.Conditions.{ready}
 use Rattle.engine.specs.declared.Head.{Head}
-use Rattle.engine.specs.Calls.{Engine, engineOf, Ciphered, Written, Recovered, Loaded, setUp, cipher, move, write, recover, load}
+use Rattle.engine.specs.Calls.{Engine, engineOf, Ciphered, Loaded, setUp, cipher, move, write, recover, load}
 
 -- the head's word is the one that the area has at the head's position, for the cipher of the head's code
 pub record TrueWord (e : Engine) : Type 0 where
