@@ -1,8 +1,8 @@
 /* Hullerbamboo: HC-128 and HC-256 with the way back, for C on x86-64.
  *
- * An engine is a head (cipher code, word, position) and a table area. Both are yours: the library keeps no state, allocates nothing, takes no lock and
- * does no input or output, so every call is reentrant, and two engines may be used by two threads at once. From the C library it needs memcpy
- * and memset.
+ * An engine is a head (cipher code, word, position, mark) and a table area. Both are yours: the library keeps no state, allocates nothing, takes no
+ * lock and does no input or output, so every call is reentrant, and two engines may be used by two threads at once. From the C library it needs
+ * memcpy and memset.
  *
  * Every call returns 0 (HC_OK) or the number of its first refusal, in the order given at the call. A refused call changes nothing: the head, the
  * area and every byte that you lent keep their values. Keys, IVs and keystream are bytes; an area is 32-bit words; a position counts bytes.
@@ -14,7 +14,9 @@
  *     not const. Inputs that are const may overlap one another.
  *   - While a call runs, no other thread, interrupt or signal handler writes what you lent, or reads what the call writes.
  *   - Keep a head with its own area, and copy both between the same two calls. Refusal 13 notices some of what goes wrong here, and not all.
- *   - Never encipher two texts at the same positions under one key and IV. Loading a checkpoint twice, or moving back, brings you there.
+ *   - Never encipher two texts at the same positions under one key and IV. Moving back, loading a checkpoint twice or a second set up brings you
+ *     there. hc_spent tells from which position on this head has used no keystream since its last set up or load. It cannot tell what was used
+ *     before that, with a copy of head and area, or after another load of the same checkpoint.
  *
  * Secret: the key, the area, a checkpoint, what hc_load returns, and the word of a head, which is four bytes of keystream from position 1 on. The
  * area and a checkpoint are as secret as the key, since hc_recover finds the key in them. hc_load and hc_recover work on a copy of the tables on the
@@ -81,11 +83,12 @@ enum hc_refusal {
     HC_FALSE_WORD = 13     /* the head's word is not the one that the area has at the head's position */
 };
 
-/* A head. Start with { 0, 0, 0 }; only the calls below change it. */
+/* A head. Start with { 0, 0, 0, 0 }; only the calls below change it. */
 struct hc_head {
     uint32_t code;     /* 0 before set up or load, then HC_128 or HC_256 */
     uint32_t word;     /* the word of keystream that the last step made, 0 at position 0 */
     uint64_t position; /* in bytes, 0 to HC_LIMIT */
+    uint64_t mark;     /* how far the keystream has been used since the last set up or load: see hc_spent */
 };
 
 /* What hc_checkpoint_length and hc_write return. length is 0 where the call is refused. */
@@ -108,17 +111,18 @@ struct hc_count {
     uint64_t count;
 };
 
-/* Set up: fills the area from a key and an IV, and the head becomes the given code and word 0 at position 0, whatever it was.
+/* Set up: fills the area from a key and an IV, and the head becomes the given code and word 0 at position 0 with mark 0, whatever it was.
  * Refusals: 1, 2, 3, 4. Stack: 352 bytes. */
 uint64_t hc_set_up(struct hc_head *head, uint32_t code, const uint8_t *key, size_t key_bytes, const uint8_t *iv, size_t iv_bytes, uint32_t *area,
                    size_t area_words);
 
 /* Cipher: replaces each lent byte by its exclusive or with the keystream byte, and advances by byte_count. The same call enciphers and deciphers.
- * Any number of bytes may be given at a time, also 0, which changes nothing.
+ * Any number of bytes may be given at a time, also 0, which changes nothing. A call of one byte or more makes the mark the larger of the mark and the
+ * position at its end.
  * Refusals: 1, 4, 5, 13, 6. Stack: 200 bytes. */
 uint64_t hc_cipher(struct hc_head *head, uint32_t *area, size_t area_words, uint8_t *bytes, size_t byte_count);
 
-/* Move: takes head and tables forward, or back where distance is negative, by a number of bytes. The time grows with the distance.
+/* Move: takes head and tables forward, or back where distance is negative, by a number of bytes; the mark stays. The time grows with the distance.
  * Refusals: 1, 4, 5, 13, 7, 6. Stack: 144 bytes. */
 uint64_t hc_move(struct hc_head *head, uint32_t *area, size_t area_words, int64_t distance);
 
@@ -129,21 +133,23 @@ uint64_t hc_move(struct hc_head *head, uint32_t *area, size_t area_words, int64_
 struct hc_length hc_checkpoint_length(uint32_t code, uint64_t position);
 
 /* Write: puts the checkpoint of head and area at the start of the lent bytes and returns its length; later bytes, area and head stay. Lend at least
- * the length that hc_checkpoint_length gives for the head's code and position.
- * Refusals: 1, 4, 5, 13, 8. Stack: 192 bytes. */
+ * the length that hc_checkpoint_length gives for the head's code and position. A checkpoint does not hold the mark.
+ * Refusals: 1, 4, 5, 13, 8. Stack: 208 bytes. */
 struct hc_length hc_write(struct hc_head *head, const uint32_t *area, size_t area_words, uint8_t *lent, size_t lent_bytes);
 
 /* Recover: fills the buffers with the key and the IV from which the tables came. Area and head stay. It takes every step back to set up.
- * Refusals: 1, 4, 5, 13, 2, 3, 12. Stack: 8,672 bytes. */
+ * Refusals: 1, 4, 5, 13, 2, 3, 12. Stack: 8,688 bytes. */
 uint64_t hc_recover(struct hc_head *head, const uint32_t *area, size_t area_words, uint8_t *key, size_t key_bytes, uint8_t *iv, size_t iv_bytes);
 
-/* Load: fills area and head from a checkpoint, whatever the head was, and returns its key and IV. The area must already have the size for the
- * checkpoint's cipher. string is the checkpoint and no byte more. Before it accepts, it takes every step back to set up and checks the key and IV
- * that it finds there.
- * Refusals: 9, 1, 4, then for the position 10 or 9, then 5, 11, 12. Stack: 8,824 bytes. */
+/* Load: fills area and head from a checkpoint, whatever the head was, and returns its key and IV. The mark becomes the loaded position. The area must
+ * already have the size for the checkpoint's cipher. string is the checkpoint and no byte more. Before it accepts, it takes every step back to set
+ * up and checks the key and IV that it finds there.
+ * Refusals: 9, 1, 4, then for the position 10 or 9, then 5, 11, 12. Stack: 8,840 bytes. */
 struct hc_words hc_load(struct hc_head *head, uint32_t *area, size_t area_words, const uint8_t *string, size_t string_bytes);
 
-/* Spent: how many keystream bytes have been used, which is the position. The head stays.
+/* Spent: how far the keystream has been used, which is the head's mark: the farthest position that a cipher call reached since the last set up or
+ * load. Set up starts it at 0, load at the loaded position, and a move leaves it. A mark that you made up is taken as it is: no call checks it,
+ * hc_spent returns it, and hc_cipher takes the larger of it and its own end. Refusal 5 is about the position, whatever the mark. The head stays.
  * Refusals: 1, 5. Stack: 0 bytes. */
 struct hc_count hc_spent(struct hc_head *head);
 

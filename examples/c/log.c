@@ -1,5 +1,6 @@
 /* The first program to write: log blend ratios, keep a checkpoint, go on from it elsewhere, and read everything back without the key. On the way it shows
- * that a refused call changes nothing, and that a head is refused with an area that was copied too early. */
+ * that a look back at an old entry leaves what is spent, that a refused call changes nothing, and that a head is refused with an area that was copied
+ * too early. */
 #include <inttypes.h>
 #include <stdio.h>
 #include <stdlib.h>
@@ -20,7 +21,7 @@ static const uint8_t zeros[HC_128_CHECKPOINT_BYTES]; /* what calloc gives, to co
 /* This compiles only where each structure is as long as its fields together. It then has no padding, and memcmp compares nothing but values. */
 #define SIZE(structure, field) sizeof(((struct structure *)0)->field)
 #define NO_PADDING(structure, fields) typedef char structure##_without_padding[sizeof(struct structure) == (fields) ? 1 : -1]
-NO_PADDING(hc_head, SIZE(hc_head, code) + SIZE(hc_head, word) + SIZE(hc_head, position));
+NO_PADDING(hc_head, SIZE(hc_head, code) + SIZE(hc_head, word) + SIZE(hc_head, position) + SIZE(hc_head, mark));
 NO_PADDING(hc_length, SIZE(hc_length, refusal) + SIZE(hc_length, length));
 NO_PADDING(hc_words, SIZE(hc_words, refusal) + SIZE(hc_words, key) + SIZE(hc_words, iv));
 NO_PADDING(hc_count, SIZE(hc_count, refusal) + SIZE(hc_count, count));
@@ -91,9 +92,16 @@ int main(void)
     show("fourth ratio logged:", log + 7, 3);
     show("on the other engine:", again, 3);
 
+    /* A look at the second ratio, the two bytes from position 2 on: the head goes back, and what is spent stays. */
+    uint8_t second[2] = {log[2], log[3]};
+    check("move", hc_move(&box.head, box.area, WORDS, 2 - (int64_t)box.head.position));
+    check("cipher", hc_cipher(&box.head, box.area, WORDS, second, sizeof second));
     struct hc_count spent = hc_spent(&box.head);
     check("spent", spent.refusal);
-    check("move", hc_move(&box.head, box.area, WORDS, -(int64_t)spent.count));
+    show("a look at the second:", second, sizeof second);
+    printf("position %" PRIu64 ", spent %" PRIu64 "\n", box.head.position, spent.count);
+
+    check("move", hc_move(&box.head, box.area, WORDS, -(int64_t)box.head.position));
     check("cipher", hc_cipher(&box.head, box.area, WORDS, log, sizeof log));
     show("moved back and read:", log, sizeof log);
 

@@ -7,6 +7,7 @@ pub struct HcHead {
     pub code: u32,
     pub word: u32,
     pub position: u64,
+    pub mark: u64,
 }
 
 #[repr(C)]
@@ -32,7 +33,7 @@ pub struct HcCount {
 }
 
 // Each structure is as long as its fields together, so it has no padding.
-const _: () = assert!(size_of::<HcHead>() == 4 + 4 + 8);
+const _: () = assert!(size_of::<HcHead>() == 4 + 4 + 8 + 8);
 const _: () = assert!(size_of::<HcLength>() == 8 + 8);
 const _: () = assert!(size_of::<HcWords>() == 8 + 8 * 4 + 8 * 4);
 const _: () = assert!(size_of::<HcCount>() == 8 + 8);

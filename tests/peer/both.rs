@@ -25,7 +25,7 @@ pub struct Both<'t> {
     pub area: Vec<u32>,
     /// The calls made so far.
     pub calls: u64,
-    tally: &'t mut Tally,
+    pub tally: &'t mut Tally,
 }
 
 /// What is compared after one call.
@@ -83,7 +83,7 @@ fn number<T>(result: &Result<T, u64>) -> u64 {
 
 /// The bytes of a head in memory.
 fn bytes_of_head(head: Head) -> Vec<u8> {
-    [&head.code.to_le_bytes()[..], &head.word.to_le_bytes(), &head.position.to_le_bytes()].concat()
+    [&head.code.to_le_bytes()[..], &head.word.to_le_bytes(), &head.position.to_le_bytes(), &head.mark.to_le_bytes()].concat()
 }
 
 /// The bytes of numbers of 64 bits in memory.
@@ -110,7 +110,7 @@ impl<'t> Both<'t> {
     pub fn new(head: Head, area: Vec<u32>, tally: &'t mut Tally) -> Both<'t> {
         let before = 1 + (tally.calls % 7) as usize;
         let mut both = Both {
-            archive_head: Lent::new(&[HEAD_GUARD; 2], HEAD_GUARD, before),
+            archive_head: Lent::new(&[HEAD_GUARD; 3], HEAD_GUARD, before),
             archive_area: Lent::new(&area, WORD_GUARD, before),
             head,
             area,
@@ -124,7 +124,7 @@ impl<'t> Both<'t> {
     /// Puts a head of the caller's choice in the place of the present one, on both sides.
     pub fn put_head(&mut self, head: Head) {
         let place = self.head_pointer();
-        unsafe { place.write(HcHead { code: head.code, word: head.word, position: head.position }) };
+        unsafe { place.write(HcHead { code: head.code, word: head.word, position: head.position, mark: head.mark }) };
         self.head = head;
     }
 
@@ -157,8 +157,8 @@ impl<'t> Both<'t> {
         self.calls += 1;
         let head = self.head;
         let text = format!(
-            "call {}: {call}, head code {:#x} word {:#010x} position {}",
-            self.calls, head.code, head.word, head.position
+            "call {}: {call}, head code {:#x} word {:#010x} position {} mark {}",
+            self.calls, head.code, head.word, head.position, head.mark
         );
         Comparison { call: text, differences: Vec::new() }
     }
@@ -179,6 +179,7 @@ impl<'t> Both<'t> {
     pub fn set_up(&mut self, words: usize, code: u32, key: &[u8], iv: &[u8]) -> Agreed<()> {
         let mut comparison =
             self.begin(format!("set up, code {code:#x}, key {}, IV {}, area {words} words", short(key), short(iv)));
+        let mark = self.head.mark;
         let had_false_word = self.has_false_word();
         let mut lent_key = self.lend(key);
         let mut lent_iv = self.lend(iv);
@@ -195,15 +196,20 @@ impl<'t> Both<'t> {
         self.end(comparison)?;
         let cipher = Cipher::of_code(code);
         self.tally.call("set up", &answer(&result), cipher);
-        if let (Ok(()), Some(cipher), true) = (result, cipher, had_false_word) {
-            self.tally.special("set up over a false word", cipher);
+        if let (Ok(()), Some(cipher)) = (result, cipher) {
+            if had_false_word {
+                self.tally.special("set up over a false word", cipher);
+            }
+            if mark != 0 {
+                self.tally.special("set up over another mark than 0", cipher);
+            }
         }
         Ok(result)
     }
 
     pub fn cipher(&mut self, words: usize, bytes: &[u8]) -> Agreed<()> {
         let mut comparison = self.begin(format!("cipher, {}, area {words} words", short(bytes)));
-        let before = self.head.position;
+        let Head { position: before, mark, .. } = self.head;
         let mut lent = self.lend(bytes);
         let mut peer_bytes = bytes.to_vec();
         let head = self.head_pointer();
@@ -227,6 +233,9 @@ impl<'t> Both<'t> {
                 self.tally.special("13 before 6 in cipher", cipher);
             }
         }
+        if let (Err(6), Some(cipher), true) = (result, cipher, mark < calls::LIMIT) {
+            self.tally.special("6 in cipher, mark below the limit", cipher);
+        }
         if let (Ok(()), Some(cipher)) = (result, cipher) {
             let table = |position: u64| calls::steps_at(position) / cipher.table_words() as u64;
             let after = self.head.position;
@@ -242,13 +251,34 @@ impl<'t> Both<'t> {
             if !bytes.is_empty() && after == calls::LIMIT {
                 self.tally.special("cipher to the limit", cipher);
             }
+            if bytes.is_empty() && before > mark {
+                self.tally.special("cipher of no bytes beyond the mark", cipher);
+            }
+            if !bytes.is_empty() && before > mark {
+                self.tally.special("cipher from beyond the mark", cipher);
+            }
+            if !bytes.is_empty() && before == mark {
+                self.tally.special("cipher from the mark", cipher);
+            }
+            if !bytes.is_empty() && before < mark && after < mark {
+                self.tally.special("cipher behind the mark, which stays", cipher);
+            }
+            if !bytes.is_empty() && after == mark {
+                self.tally.special("cipher that ends at the mark", cipher);
+            }
+            if before < mark && after > mark {
+                self.tally.special("cipher from behind the mark, which rises", cipher);
+            }
+            if !bytes.is_empty() && mark > calls::LIMIT {
+                self.tally.special("cipher with a mark over the limit", cipher);
+            }
         }
         Ok(result)
     }
 
     pub fn move_by(&mut self, words: usize, distance: i64) -> Agreed<()> {
         let mut comparison = self.begin(format!("move, distance {distance}, area {words} words"));
-        let before = self.head.position;
+        let Head { position: before, mark, .. } = self.head;
         let head = self.head_pointer();
         let area = self.archive_area.pointer();
         let refusal = unsafe { archive::hc_move(head, area, words, distance) };
@@ -283,6 +313,12 @@ impl<'t> Both<'t> {
             }
             if distance != 0 && after == calls::LIMIT {
                 self.tally.special("move to the limit", cipher);
+            }
+            if before >= mark && after < mark {
+                self.tally.special("move back to behind the mark", cipher);
+            }
+            if before <= mark && after > mark {
+                self.tally.special("move forward to beyond the mark", cipher);
             }
         }
         Ok(result)
@@ -407,6 +443,12 @@ impl<'t> Both<'t> {
             if had_false_word {
                 self.tally.special("load over a false word", cipher);
             }
+            if before.mark > self.head.position {
+                self.tally.special("load over a larger mark", cipher);
+            }
+            if before.mark < self.head.position {
+                self.tally.special("load over a smaller mark", cipher);
+            }
         }
         Ok(result)
     }
@@ -425,8 +467,16 @@ impl<'t> Both<'t> {
         self.end(comparison)?;
         let cipher = Cipher::of_code(self.head.code);
         self.tally.call("spent", &answer(&result), cipher);
-        if let (Ok(_), Some(cipher), true) = (result, cipher, has_false_word) {
-            self.tally.special("spent of a false word", cipher);
+        if let (Ok(_), Some(cipher)) = (result, cipher) {
+            if has_false_word {
+                self.tally.special("spent of a false word", cipher);
+            }
+            if self.head.mark > calls::LIMIT {
+                self.tally.special("spent of a mark over the limit", cipher);
+            }
+        }
+        if let (Err(5), Some(cipher), true) = (result, cipher, self.head.mark <= calls::LIMIT) {
+            self.tally.special("5 in spent, mark not over the limit", cipher);
         }
         Ok(result)
     }

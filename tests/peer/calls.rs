@@ -1,5 +1,5 @@
-//! The eight calls: the refusals in their order, then what an accepted call does. Document 01 states seven of them, requests (a)
-//! and (g) of document 02 change them, and the C header states the eighth, checkpoint length.
+//! The eight calls: the refusals in their order, then what an accepted call does. Document 01 states seven of them, requests (a),
+//! (b) and (g) of document 02 change them, and the C header states the eighth, checkpoint length.
 
 use crate::ciphers::{self, Cipher};
 
@@ -12,10 +12,11 @@ pub struct Head {
     pub code: u32,
     pub word: u32,
     pub position: u64,
+    pub mark: u64,
 }
 
 /// A fresh head.
-pub const FRESH: Head = Head { code: 0, word: 0, position: 0 };
+pub const FRESH: Head = Head { code: 0, word: 0, position: 0, mark: 0 };
 
 /// The steps that the tables have taken at a position.
 pub fn steps_at(position: u64) -> u64 {
@@ -35,9 +36,9 @@ pub fn word_at(cipher: Cipher, position: u64, tables: &[u32]) -> u32 {
     }
 }
 
-/// The head of a cipher and a position that has the word of these tables.
-pub fn head_at(cipher: Cipher, position: u64, tables: &[u32]) -> Head {
-    Head { code: cipher.code(), word: word_at(cipher, position, tables), position }
+/// The head of a cipher, a position and a mark that has the word of these tables.
+pub fn head_at(cipher: Cipher, position: u64, mark: u64, tables: &[u32]) -> Head {
+    Head { code: cipher.code(), word: word_at(cipher, position, tables), position, mark }
 }
 
 /// Refusal 1.
@@ -89,11 +90,11 @@ pub fn set_up(head: &mut Head, code: u32, key: &[u8], iv: &[u8], area: &mut [u32
     lengths_are_good(cipher, key, iv)?;
     area_is_good(cipher, area.len())?;
     area.copy_from_slice(&ciphers::set_up(cipher, &ciphers::words_of_bytes(key), &ciphers::words_of_bytes(iv)));
-    *head = Head { code, word: 0, position: 0 };
+    *head = Head { code, word: 0, position: 0, mark: 0 };
     Ok(())
 }
 
-/// Cipher, one byte at a time.
+/// Cipher, one byte at a time. A byte that ends beyond the mark takes the mark along.
 pub fn cipher(head: &mut Head, area: &mut [u32], bytes: &mut [u8]) -> Result<(), u64> {
     let cipher = engine_is_good(head, area)?;
     if head.position as u128 + bytes.len() as u128 > LIMIT as u128 {
@@ -106,12 +107,15 @@ pub fn cipher(head: &mut Head, area: &mut [u32], bytes: &mut [u8]) -> Result<(),
         }
         *byte ^= ciphers::output(cipher, area, number).to_le_bytes()[(head.position % 4) as usize];
         head.position += 1;
+        if head.mark < head.position {
+            head.mark = head.position;
+        }
     }
     head.word = word_at(cipher, head.position, area);
     Ok(())
 }
 
-/// Move.
+/// Move, which leaves the mark.
 pub fn move_by(head: &mut Head, area: &mut [u32], distance: i64) -> Result<(), u64> {
     let cipher = engine_is_good(head, area)?;
     let end = head.position as i128 + distance as i128;
@@ -124,7 +128,7 @@ pub fn move_by(head: &mut Head, area: &mut [u32], distance: i64) -> Result<(), u
     let end = end as u64;
     ciphers::steps_forward(cipher, area, steps_at(head.position), steps_at(end));
     ciphers::steps_back(cipher, area, steps_at(head.position), steps_at(end));
-    *head = head_at(cipher, end, area);
+    *head = head_at(cipher, end, head.mark, area);
     Ok(())
 }
 
@@ -140,7 +144,7 @@ pub fn groups_of(number: u64) -> Vec<u8> {
     groups
 }
 
-/// The checkpoint of a cipher, a position and tables. It holds no word.
+/// The checkpoint of a cipher, a position and tables. It holds neither word nor mark.
 pub fn checkpoint(cipher: Cipher, position: u64, tables: &[u32]) -> Vec<u8> {
     let mut string = vec![cipher.code() as u8];
     string.extend(groups_of(position));
@@ -225,7 +229,7 @@ pub fn parts(area_words: usize, string: &[u8]) -> Result<(Cipher, u64, &[u8]), u
     Ok((cipher, position, tables))
 }
 
-/// Load, which returns the eight key words and the eight IV words.
+/// Load, which returns the eight key words and the eight IV words. The mark becomes the loaded position.
 pub fn load(head: &mut Head, area: &mut [u32], string: &[u8]) -> Result<([u32; 8], [u32; 8]), u64> {
     let (cipher, position, table_bytes) = parts(area.len(), string)?;
     let tables = ciphers::words_of_bytes(table_bytes);
@@ -234,13 +238,13 @@ pub fn load(head: &mut Head, area: &mut [u32], string: &[u8]) -> Result<([u32; 8
     words.0[..key.len()].copy_from_slice(&key);
     words.1[..iv.len()].copy_from_slice(&iv);
     area.copy_from_slice(&tables);
-    *head = head_at(cipher, position, &tables);
+    *head = head_at(cipher, position, position, &tables);
     Ok(words)
 }
 
-/// Spent.
+/// Spent, which returns the mark as it is.
 pub fn spent(head: &Head) -> Result<u64, u64> {
     code_is_good(head.code)?;
     position_is_good(head.position)?;
-    Ok(head.position)
+    Ok(head.mark)
 }

@@ -3,9 +3,12 @@
 use crate::both::{Agreed, Both};
 use crate::calls::{self, Head, FRESH, LIMIT};
 use crate::ciphers::{self, Cipher};
+use crate::count::Count;
 use crate::made::NO_CIPHER;
+use crate::marks::MARK_EDGES;
 use crate::random::Random;
 use crate::tally::Tally;
+use std::cmp::Ordering;
 
 /// The words of memory for areas, more than the larger cipher needs.
 const MEMORY_WORDS: usize = 2112;
@@ -28,8 +31,8 @@ struct List<'t> {
     checkpoints: Vec<Vec<u8>>,
     /// Heads with the areas that belonged to them, from earlier in the list.
     copies: Vec<(Head, Vec<u32>)>,
-    /// Whether every call gets head and area as the last one left them, from a fresh head on; then no answer is 13.
-    undisturbed: bool,
+    /// Kept where every call gets head and area as the last one left them, from a fresh head on; then no answer is 13.
+    count: Option<Count>,
     far_calls: u64,
 }
 
@@ -39,12 +42,12 @@ pub fn run(seed: u64, number: u64, tally: &mut Tally) -> Result<(), String> {
     let is_far = number % FAR_LISTS == FAR_LISTS / 2;
     let area = if random.once_in(8) { vec![0; MEMORY_WORDS] } else { random.words(MEMORY_WORDS) };
     let head = if is_far { FRESH } else { first_head(&mut random, &area) };
-    let undisturbed = head == FRESH && random.once_in(2);
+    let count = if head == FRESH && random.once_in(2) { Some(Count::default()) } else { None };
     let copies = vec![(head, area.clone())];
     let checkpoints = vec![other_checkpoint(&mut random, Cipher::Hc128), other_checkpoint(&mut random, Cipher::Hc256)];
     let both = Both::new(head, area, tally);
     let far_calls = if is_far { FAR_CALLS } else { 0 };
-    let mut list = List { random, both, checkpoints, copies, undisturbed, far_calls };
+    let mut list = List { random, both, checkpoints, copies, count, far_calls };
     if is_far {
         list.go_far()?;
     } else if head == FRESH && !list.random.once_in(4) {
@@ -56,16 +59,16 @@ pub fn run(seed: u64, number: u64, tally: &mut Tally) -> Result<(), String> {
         if number == large_cipher {
             let length = list.random.between(10_000, 70_000) as usize;
             list.cipher(length)?;
-        } else if list.undisturbed {
+        } else if list.count.is_some() {
             list.any_call()?;
         } else {
             list.disturbed_call()?;
         }
     }
-    Ok(())
+    list.spent()
 }
 
-/// A fresh head or a made-up one, which mostly has the word of the tables.
+/// A fresh head or a made-up one, which mostly has the word of the tables. A made-up one has a made-up mark.
 fn first_head(random: &mut Random, area: &[u32]) -> Head {
     let position = match random.below(16) {
         0..=7 => return FRESH,
@@ -77,14 +80,26 @@ fn first_head(random: &mut Random, area: &[u32]) -> Head {
         _ => {
             let any = random.next() as u32;
             let (code, word) = (any_code(random), random.pick(&[0, any]));
-            return Head { code, word, position: random.pick(&[0, 1, 5000, LIMIT, LIMIT + 1, u64::MAX]) };
+            let position = random.pick(&[0, 1, 5000, LIMIT, LIMIT + 1, u64::MAX]);
+            return Head { code, word, position, mark: made_up_mark(random, position) };
         }
     };
-    let mut head = calls::head_at(random.pick(&[Cipher::Hc128, Cipher::Hc256]), position, area);
+    let mark = made_up_mark(random, position);
+    let mut head = calls::head_at(random.pick(&[Cipher::Hc128, Cipher::Hc256]), position, mark, area);
     if random.once_in(8) {
         head.word ^= 1 << random.below(32);
     }
     head
+}
+
+/// A mark for a head at a position: near the position, at one of the edges, or any.
+fn made_up_mark(random: &mut Random, position: u64) -> u64 {
+    match random.below(4) {
+        0 => position.wrapping_add(random.below(41)).wrapping_sub(20),
+        1 => position.saturating_add(random.below(10_000)),
+        2 => random.pick(&MARK_EDGES),
+        _ => random.next() >> random.below(64),
+    }
 }
 
 /// A code that names no cipher, or any at all.
@@ -168,7 +183,11 @@ impl List<'_> {
         let cipher = Cipher::of_code(code).unwrap();
         let key = self.random.bytes(cipher.key_bytes());
         let iv = self.random.bytes(cipher.key_bytes());
-        self.both.set_up(cipher.area_words(), code, &key, &iv)?.map_err(|_| "set up refused".to_string())
+        self.both.set_up(cipher.area_words(), code, &key, &iv)?.map_err(|_| "set up refused")?;
+        if let Some(count) = &mut self.count {
+            count.set_up();
+        }
+        Ok(())
     }
 
     /// Takes a true key and IV near the limit, so that later far calls find them there.
@@ -178,6 +197,9 @@ impl List<'_> {
         let distance = (LIMIT - self.random.below(9_000)) as i64;
         self.far_calls -= 1;
         self.both.move_by(words, distance)?.map_err(|_| "move refused")?;
+        if let Some(count) = &mut self.count {
+            count.move_by(distance);
+        }
         let checkpoint = self.both.write(words, &[0; 8200])?.map_err(|_| "write refused")?;
         self.checkpoints.push(checkpoint);
         Ok(())
@@ -208,16 +230,16 @@ impl List<'_> {
     fn set_right(&mut self) {
         let head = self.both.head;
         if let (Some(cipher), true) = (Cipher::of_code(head.code), self.random.once_in(2)) {
-            self.both.put_head(calls::head_at(cipher, head.position, &self.both.area));
+            self.both.put_head(calls::head_at(cipher, head.position, head.mark, &self.both.area));
         }
     }
 
-    /// Puts a false word, or something from another moment, in the place of what the last call left.
+    /// Puts a false word, a made-up mark or something from another moment in the place of what the last call left.
     fn disturb(&mut self) {
         let head = self.both.head;
         let copy = self.random.below(self.copies.len() as u64) as usize;
         let (copied_head, copied_area) = self.copies[copy].clone();
-        match self.random.below(12) {
+        match self.random.below(16) {
             0..=3 => self.both.put_head(Head { word: head.word ^ (1 << self.random.below(32)), ..head }),
             4..=5 => self.both.put_head(Head { word: copied_head.word, ..head }),
             6 => self.both.put_head(Head { word: 0, ..head }),
@@ -230,8 +252,10 @@ impl List<'_> {
             10 => {
                 let cipher = self.random.pick(&[Cipher::Hc128, Cipher::Hc256]);
                 let position = edge_position(&mut self.random);
-                self.both.put_head(calls::head_at(cipher, position, &self.both.area));
+                let mark = made_up_mark(&mut self.random, position);
+                self.both.put_head(calls::head_at(cipher, position, mark, &self.both.area));
             }
+            11..=14 => self.both.put_head(Head { mark: made_up_mark(&mut self.random, head.position), ..head }),
             _ => {
                 let higher_bit = 1 << self.random.between(8, 31);
                 let any = any_code(&mut self.random);
@@ -244,13 +268,13 @@ impl List<'_> {
     /// The end of a call. In a list that nobody disturbs, an answer of 13 is wrong.
     fn end<T>(&self, agreed: Agreed<T>) -> Agreed<T> {
         match agreed? {
-            Err(13) if self.undisturbed => Err("wrong on both sides: 13 in an undisturbed list".to_string()),
+            Err(13) if self.count.is_some() => Err("wrong on both sides: 13 in an undisturbed list".to_string()),
             answer => Ok(answer),
         }
     }
 
     fn any_call(&mut self) -> Result<(), String> {
-        match self.random.below(110) {
+        match self.random.below(120) {
             0..=9 => self.set_up(),
             10..=34 => {
                 let length = self.cipher_length();
@@ -260,7 +284,7 @@ impl List<'_> {
             57..=66 => self.write(),
             67..=74 => self.recover(),
             75..=94 => self.load(),
-            95..=99 => self.both.spent().map(|_| ()),
+            95..=109 => self.spent(),
             _ => self.checkpoint_length(),
         }
     }
@@ -272,14 +296,19 @@ impl List<'_> {
         let key = self.random.bytes(key_length);
         let iv = self.random.bytes(iv_length);
         let words = self.words(code);
-        self.both.set_up(words, code, &key, &iv).map(|_| ())
+        let answer = self.both.set_up(words, code, &key, &iv)?;
+        if let (Ok(()), Some(count)) = (answer, &mut self.count) {
+            count.set_up();
+        }
+        Ok(())
     }
 
     fn cipher_length(&mut self) -> usize {
         let left = LIMIT.saturating_sub(self.both.head.position);
         let turn = self.random.pick(&[2048, 4096, 8192]);
         let to_turn = turn - self.both.head.position % turn;
-        let length = match self.random.below(16) {
+        let to_mark = self.both.head.mark.saturating_sub(self.both.head.position);
+        let length = match self.random.below(20) {
             0 => 0,
             1..=6 => self.random.between(1, 16),
             7..=9 => self.random.between(17, 300),
@@ -287,6 +316,8 @@ impl List<'_> {
             12 => to_turn,
             13 => left.min(70_000),
             14 => (left + 1).min(70_000),
+            15..=16 => to_mark.min(70_000),
+            17..=18 => to_mark.min(70_000) + self.random.below(9),
             _ => self.random.between(300, 70_000),
         };
         length as usize
@@ -296,14 +327,19 @@ impl List<'_> {
         let words = self.words(self.both.head.code);
         let bytes = self.random.bytes(length);
         let agreed = self.both.cipher(words, &bytes);
-        self.end(agreed).map(|_| ())
+        let answer = self.end(agreed)?;
+        if let (Ok(()), Some(count)) = (answer, &mut self.count) {
+            count.cipher(length);
+        }
+        Ok(())
     }
 
     fn distance(&mut self) -> i64 {
         let position = self.both.head.position as i128;
+        let mark = self.both.head.mark as i128;
         let limit = LIMIT as i128;
         let turn = self.random.pick(&[2048, 4096, 8192]) as i128;
-        let distance = match self.random.below(16) {
+        let distance = match self.random.below(18) {
             0..=3 => self.random.below(41) as i128 - 20,
             4..=6 => (position / turn + self.random.below(5) as i128 - 2) * turn + self.random.below(11) as i128 - 5 - position,
             7..=8 => self.random.below(200_001) as i128 - 100_000,
@@ -313,6 +349,7 @@ impl List<'_> {
             12 => limit + 1 - position,
             13 => self.random.pick(&[i64::MIN, i64::MIN + 1, i64::MAX, i64::MAX - 1, 1, -1]) as i128,
             14 => self.random.next() as i64 as i128,
+            15..=16 => mark - position + self.random.below(31) as i128 - 15,
             _ => self.random.below(2 * LIMIT) as i128 - limit,
         };
         distance.clamp(i64::MIN as i128, i64::MAX as i128) as i64
@@ -326,7 +363,11 @@ impl List<'_> {
         }
         let words = self.words(self.both.head.code);
         let agreed = self.both.move_by(words, distance);
-        self.end(agreed).map(|_| ())
+        let answer = self.end(agreed)?;
+        if let (Ok(()), Some(count)) = (answer, &mut self.count) {
+            count.move_by(distance);
+        }
+        Ok(())
     }
 
     fn checkpoint_length(&mut self) -> Result<(), String> {
@@ -404,7 +445,29 @@ impl List<'_> {
                 string.pop();
             }
         }
-        self.both.load(words, &string).map(|_| ())
+        let answer = self.both.load(words, &string)?;
+        if let (Ok(_), Some(count)) = (answer, &mut self.count) {
+            count.load(&string);
+        }
+        Ok(())
+    }
+
+    /// Spent, whose answer must be the list's own count where that is kept.
+    fn spent(&mut self) -> Result<(), String> {
+        let answer = self.both.spent()?;
+        if let (Ok(spent), Some(count), Some(cipher)) = (answer, &self.count, Cipher::of_code(self.both.head.code)) {
+            if spent != count.farthest {
+                let (call, reached) = (self.both.calls, count.farthest);
+                return Err(format!("call {call}: wrong on both sides: spent is {spent}, the cipher calls reached {reached}"));
+            }
+            let compared = match count.farthest.cmp(&count.position) {
+                Ordering::Greater => "spent, count larger than the position",
+                Ordering::Equal => "spent, count equal to the position",
+                Ordering::Less => "spent, count smaller than the position",
+            };
+            self.both.tally.special(compared, cipher);
+        }
+        Ok(())
     }
 
     /// The string with one damage, which may happen to leave a checkpoint.

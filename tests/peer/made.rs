@@ -1,15 +1,17 @@
-//! Cases made by hand, with the answer that document 01, request (a) or (g) of document 02 or the C header gives for each.
+//! Cases made by hand, with the answer that document 01, request (a) or (g) of document 02 or the C header gives for each. Those
+//! of request (b) are in marks.rs.
 
 use crate::both::{Agreed, Both};
 use crate::calls::{self, Head, FRESH, LIMIT};
 use crate::ciphers::{self, Cipher};
+use crate::marks;
 use crate::random::Random;
 use crate::tally::Tally;
 use crate::vectors;
 use std::fmt::Debug;
 
 /// The agreed answer against the expected one.
-fn expect<T: PartialEq + Debug>(case: &str, agreed: Agreed<T>, expected: Result<T, u64>) -> Result<(), String> {
+pub fn expect<T: PartialEq + Debug>(case: &str, agreed: Agreed<T>, expected: Result<T, u64>) -> Result<(), String> {
     let answer = agreed.map_err(|text| format!("{case}, {text}"))?;
     if answer == expected {
         Ok(())
@@ -25,7 +27,7 @@ pub const NO_CIPHER: [u32; 18] = [
 ];
 
 /// Positions from 0 over several turns, and inside words.
-const POSITIONS: [u64; 12] = [0, 1, 4, 5, 2044, 2045, 2048, 2049, 4096, 4097, 8192, 12_289];
+pub const POSITIONS: [u64; 12] = [0, 1, 4, 5, 2044, 2045, 2048, 2049, 4096, 4097, 8192, 12_289];
 
 /// Positions at which a number gets another group, with their bytes.
 const NUMBERS: [(u64, &[u8]); 11] = [
@@ -54,9 +56,9 @@ const LENGTHS: [(u64, usize, usize); 8] = [
     (67_108_864, 4101, 8197),
 ];
 
-/// An engine of any tables, whose head has the word of these tables.
+/// An engine of any tables, whose head has the word of these tables and, as after a load, its position as mark.
 fn made_up(cipher: Cipher, position: u64, tables: Vec<u32>, tally: &mut Tally) -> Both<'_> {
-    Both::new(calls::head_at(cipher, position, &tables), tables, tally)
+    Both::new(calls::head_at(cipher, position, position, &tables), tables, tally)
 }
 
 /// The first words that a key and an IV give, with the key and IV that load returns for them.
@@ -166,7 +168,7 @@ fn examples(random: &mut Random, cipher: Cipher, tally: &mut Tally) -> Result<()
     let mut at_three = made_up(cipher, 3, random.words(words), tally);
     expect("move -4 at 3", at_three.move_by(words, -4), Err(7))?;
     expect("move -3 at 3", at_three.move_by(words, -3), Ok(()))?;
-    expect("spent at 0", at_three.spent(), Ok(0))?;
+    expect("spent after move -3", at_three.spent(), Ok(3))?;
 
     let mut at_start = made_up(cipher, 1, random.words(words), tally);
     let more_than_left = vec![0x5A; LIMIT as usize];
@@ -247,7 +249,7 @@ fn lengths(random: &mut Random, cipher: Cipher, tally: &mut Tally) -> Result<(),
         for more in [0, 1, 100] {
             expect(&case("write into enough bytes"), both.write(words, &random.bytes(length + more)), Ok(string.clone()))?;
         }
-        expect(&case("spent"), both.spent(), Ok(position))?;
+        expect(&case("spent after moves only"), both.spent(), Ok(0))?;
     }
     for over in [LIMIT + 1, 1 << 28, 1 << 32, (1 << 32) + 127, u64::MAX] {
         expect(&format!("checkpoint length at {over}"), both.checkpoint_length(code, over), Err(5))?;
@@ -264,7 +266,7 @@ fn length_examples(random: &mut Random, tally: &mut Tally) -> Result<(), String>
     expect("HC-128 at 0 into 4,098 bytes", at_start.write(1024, &random.bytes(4098)), Ok(string))?;
     expect("write into nothing with a short area", at_start.write(1023, &[]), Err(4))?;
     for code in NO_CIPHER {
-        let mut no_cipher = Both::new(Head { code, word: 7, position: LIMIT + 1 }, random.words(1024), tally);
+        let mut no_cipher = Both::new(Head { code, word: 7, position: LIMIT + 1, mark: 9 }, random.words(1024), tally);
         expect("checkpoint length of no cipher at 0", no_cipher.checkpoint_length(code, 0), Err(1))?;
         expect("checkpoint length of no cipher over the limit", no_cipher.checkpoint_length(code, LIMIT + 1), Err(1))?;
         expect("write of no cipher into nothing", no_cipher.write(1024, &[]), Err(1))?;
@@ -313,7 +315,7 @@ fn first_words_of_heads(cipher: Cipher, tally: &mut Tally) -> Result<(), String>
         Cipher::Hc256 => vectors::HC_256[0],
     };
     let expected = |position: usize| if position == 0 { 0 } else { outputs[(position - 1) / 4] };
-    let mut both = Both::new(Head { code: 3, word: 5, position: 9 }, vec![7; words], tally);
+    let mut both = Both::new(Head { code: 3, word: 5, position: 9, mark: 11 }, vec![7; words], tally);
     expect("set up", both.set_up(words, cipher.code(), &zero, &zero), Ok(()))?;
     expect_word("after set up", &both, 0)?;
     for position in 1..=64 {
@@ -352,7 +354,7 @@ fn words_at_turn_ends(random: &mut Random, cipher: Cipher, tally: &mut Tally) ->
         for position in end - 6..=end + 6 {
             let mut tables = start.clone();
             ciphers::steps_forward(cipher, &mut tables, 0, calls::steps_at(position as u64));
-            let mut both = Both::new(Head { code: 3, word: 5, position: 9 }, random.words(words), tally);
+            let mut both = Both::new(Head { code: 3, word: 5, position: 9, mark: 11 }, random.words(words), tally);
             let loaded = both.load(words, &calls::checkpoint(cipher, position as u64, &tables))?;
             loaded.map_err(|refusal| format!("load at {position} refused with {refusal}"))?;
             expect_word("after load", &both, expected(position))?;
@@ -377,7 +379,7 @@ fn refusals_beside_13(random: &mut Random, cipher: Cipher, tally: &mut Tally) ->
     let bytes = cipher.key_bytes();
     for position in [0, 1, 2, 3, 4, 5, 2047, 2048, 2049, 4096, 4097, 8192, LIMIT - 4, LIMIT - 3, LIMIT - 1, LIMIT] {
         let memory = random.words(words + 1);
-        let good = calls::head_at(cipher, position, &memory);
+        let good = calls::head_at(cipher, position, random.next(), &memory);
         let bad = Head { word: good.word ^ 1 << random.below(32), ..good };
         let length = calls::checkpoint_length(cipher.code(), position).unwrap();
         let left = LIMIT - position;
@@ -460,8 +462,10 @@ fn false_words(random: &mut Random, cipher: Cipher, tally: &mut Tally) -> Result
         expect("recover", both.recover(words, &random.bytes(bytes), &random.bytes(bytes)), Ok((key, iv)))?;
         expect("cipher", both.cipher(words, &random.bytes(5)), Ok(()))?;
         expect("move back", both.move_by(words, -5), Ok(()))?;
-        if both.head != head {
-            return Err(format!("a move back to {position} does not give the head that was there"));
+        if both.head != (Head { mark: position + 5, ..head }) {
+            return Err(format!(
+                "a move back to {position} does not give the head that was there and the mark of the cipher call"
+            ));
         }
     }
     Ok(())
@@ -475,7 +479,7 @@ fn words_of_zero(random: &mut Random, cipher: Cipher, tally: &mut Tally) -> Resu
         let step = calls::steps_at(position) - 1;
         tables[step as usize % words] ^= ciphers::output(cipher, &tables, step);
         let string = calls::checkpoint(cipher, position, &tables);
-        let head = Head { code: cipher.code(), word: 0, position };
+        let head = Head { code: cipher.code(), word: 0, position, mark: 0 };
         let mut both = Both::new(head, tables, tally);
         expect("write with word 0", both.write(words, &random.bytes(8197)), Ok(string))?;
         both.put_head(Head { word: 1 << random.below(32), ..head });
@@ -513,13 +517,13 @@ fn calls_without_13(random: &mut Random, cipher: Cipher, tally: &mut Tally) -> R
             return Err("both sides changed the head in a refused call".to_string());
         }
         expect("load over a false word", both.load(words, &string), Ok(returned))?;
-        if both.head != calls::head_at(cipher, position, &tables) {
-            return Err("the head after load has not the word of the tables".to_string());
+        if both.head != calls::head_at(cipher, position, position, &tables) {
+            return Err("the head after load has not the word of the tables and its position as mark".to_string());
         }
         both.put_head(bad);
         expect("set up over a false word", both.set_up(words, code, &key, &iv), Ok(()))?;
-        if both.head != (Head { code, word: 0, position: 0 }) {
-            return Err("the head after set up has not word 0 at position 0".to_string());
+        if both.head != (Head { code, word: 0, position: 0, mark: 0 }) {
+            return Err("the head after set up has not word 0 and mark 0 at position 0".to_string());
         }
         both.put_head(Head { word: 1, position: LIMIT + 1, ..bad });
         expect("spent over the limit, false word", both.spent(), Err(5))?;
@@ -641,7 +645,7 @@ fn any_area_at_0(random: &mut Random, cipher: Cipher, tally: &mut Tally) -> Resu
     let bytes = cipher.key_bytes();
     for area in [vec![0; words], vec![u32::MAX; words], random.words(words), random.words(words)] {
         let string = calls::checkpoint(cipher, 0, &area);
-        let mut both = Both::new(Head { code: cipher.code(), word: 0, position: 0 }, area, tally);
+        let mut both = Both::new(Head { code: cipher.code(), word: 0, position: 0, mark: 0 }, area, tally);
         expect("write at 0", both.write(words, &random.bytes(8197)), Ok(string))?;
         expect("recover at 0", both.recover(words, &random.bytes(bytes), &random.bytes(bytes)), Err(12))?;
         expect("move at 0", both.move_by(words, 0), Ok(()))?;
@@ -671,6 +675,7 @@ pub fn run(seed: u64, tally: &mut Tally) -> Result<(), String> {
         copied_apart(&mut random, cipher, tally)?;
         areas_of_later_steps(&mut random, cipher, tally)?;
         any_area_at_0(&mut random, cipher, tally)?;
+        marks::run(&mut random, cipher, tally)?;
     }
     words_not_twice(&mut random, tally)?;
     length_examples(&mut random, tally)

@@ -36,7 +36,7 @@ const EXPECTED: [(&str, &[(&str, bool)]); 8] = [
 ];
 
 /// Calls of special interest that must occur for both ciphers.
-const SPECIAL: [&str; 29] = [
+const SPECIAL: [&str; 47] = [
     "cipher of no bytes",
     "cipher from inside a word",
     "cipher past the last word of a table",
@@ -66,6 +66,24 @@ const SPECIAL: [&str; 29] = [
     "set up over a false word",
     "load over a false word",
     "spent of a false word",
+    "cipher of no bytes beyond the mark",
+    "cipher from beyond the mark",
+    "cipher from the mark",
+    "cipher behind the mark, which stays",
+    "cipher that ends at the mark",
+    "cipher from behind the mark, which rises",
+    "cipher with a mark over the limit",
+    "6 in cipher, mark below the limit",
+    "move back to behind the mark",
+    "move forward to beyond the mark",
+    "set up over another mark than 0",
+    "load over a larger mark",
+    "load over a smaller mark",
+    "spent of a mark over the limit",
+    "5 in spent, mark not over the limit",
+    "spent, count larger than the position",
+    "spent, count equal to the position",
+    "spent, count smaller than the position",
 ];
 
 #[derive(Default)]

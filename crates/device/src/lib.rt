@@ -8,7 +8,7 @@ use engine::answers::LengthAnswer;
 use engine::answers::LoadAnswer;
 use engine::answers::SpentAnswer;
 
-// Set up: the area is filled from a key and an IV, and the position becomes 0.
+// Set up: the area is filled from a key and an IV, and position and mark become 0.
 #[no_mangle]
 pub extern "C" fn hc_set_up(
     head: &mut Head,
@@ -26,7 +26,8 @@ pub extern "C" fn hc_set_up(
     done.refusal
 }
 
-// Cipher: each lent byte becomes its exclusive or with the keystream byte, and the position advances by their number.
+// Cipher: each lent byte becomes its exclusive or with the keystream byte, and the position advances by their number. With one byte or more the mark
+// becomes the larger of the mark and the end.
 #[no_mangle]
 pub extern "C" fn hc_cipher(head: &mut Head, area: &mut [u32], bytes: &mut [u8]) -> u64
     ensures { λ r. ⌜
@@ -38,7 +39,7 @@ pub extern "C" fn hc_cipher(head: &mut Head, area: &mut [u32], bytes: &mut [u8])
     ciphered.refusal
 }
 
-// Move: by a signed distance in bytes.
+// Move: by a signed distance in bytes; the mark stays.
 #[no_mangle]
 pub extern "C" fn hc_move(head: &mut Head, area: &mut [u32], distance: i64) -> u64
     ensures { λ r. ⌜
@@ -82,7 +83,7 @@ pub extern "C" fn hc_recover(head: &mut Head, area: &[u32], key: &mut [u8], iv: 
     recovered.refusal
 }
 
-// Load: area and head are filled from a checkpoint.
+// Load: area and head are filled from a checkpoint, and the mark becomes the loaded position.
 #[no_mangle]
 pub extern "C" fn hc_load(head: &mut Head, area: &mut [u32], string: &[u8]) -> LoadAnswer
     ensures { λ r. ⌜
@@ -94,7 +95,7 @@ pub extern "C" fn hc_load(head: &mut Head, area: &mut [u32], string: &[u8]) -> L
     loaded.answer
 }
 
-// Spent: how many keystream bytes have been used.
+// Spent: the mark, which is the farthest byte that a cipher call reached since the last set up or load.
 #[no_mangle]
 pub extern "C" fn hc_spent(head: &mut Head) -> SpentAnswer
     ensures { λ r. ⌜ Answers.counted r (now (head .exit)) ≡ Calls.spentCall (now (head .entry)) ⌝ }

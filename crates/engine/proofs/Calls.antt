@@ -1,8 +1,9 @@
 -- What a call leaves, by the outcome of its conditions. Assumes nothing.
-use mathlib.Core.Path.{_≡_, _∙_}
+use mathlib.Core.Path.{_≡_, refl, sym, _∙_}
 use mathlib.Core.Bool.{true, false}
 use mathlib.Core.List.{List, _++_}
-use Prim.Native.Nat.{ℕ, _+_, _-_, _/_, _≤_, _<_}
+use Prim.Native.Nat.{ℕ, zero, suc, _+_, _-_, _/_, _≤_, _<_}
+use native.Mathlib.Nat.{le-max-right, max-eq-left, max-eq-right}
 use native.Mathlib.Omega.{arith}
 use borrow.Author.Tests.{eq-eqb, ne-eqb, le-leb, lt-leb}
 use lib.IntN.{ℤ}
@@ -27,7 +28,7 @@ use Rattle.recovery.specs.Recovery.{filledAt}
 use Rattle.engine.specs.declared.Head.{Head}
 use Rattle.conditions.specs.Result.{refused, accepted}
 use Rattle.conditions.specs.Limit.{limit}
-use Rattle.engine.specs.Head.{headAt}
+use Rattle.engine.specs.Head.{headAt, markAfter}
 use Rattle.conditions.specs.Conditions.{setUpCheck, headCheck, cipherCheck, endOf, moveCheck, undoAt, recoverCheck, loadFound, loadCheck}
 use Rattle.engine.specs.Calls.{engineOf, headReady, setUp, setUpCall, cipher, cipherCall, move, moveCall, write, writeCall, checkpointLength, checkpointLengthCall, recover, recoverCall, eightWords, load, loadCall, spent, spentCall}
 
@@ -38,10 +39,32 @@ module _ (h : Head) (code : ℕ) (key iv area : List ℕ) where
   set-up-refused n e = rw e
 
   pub set-up-done : (c : Cipher) (new : Head) (s : List ℕ) → setUpCheck code (length key) (length iv) (length area) ≡ accepted c
-      → new ≡ headAt code 0 0 → s ≡ SetUp.setUp c key iv
+      → new ≡ headAt code 0 0 0 → s ≡ SetUp.setUp c key iv
       → record { refusal = 0; value = engineOf new s } ≡ setUpCall h code key iv area
   unfolding setUpCall setUp lastOutput
   set-up-done c new s e p q = rw (e, p, q)
+
+-- the mark after a cipher call of n bytes
+module _ (mark end : ℕ) where
+  pub mark-left : (n : ℕ) → n ≡ 0 → mark ≡ markAfter mark end n
+  unfolding markAfter
+  mark-left n e = rw e
+
+  pub mark-raised : (n : ℕ) → (n ≡ 0 → ⊥) → mark < end → end ≡ markAfter mark end n
+  unfolding markAfter
+  mark-raised zero z l = absurd (z refl)
+  mark-raised (suc n) z l = sym (max-eq-right (omega arith))
+
+  pub mark-larger : (n : ℕ) → (n ≡ 0 → ⊥) → end ≤ mark → mark ≡ markAfter mark end n
+  unfolding markAfter
+  mark-larger zero z l = absurd (z refl)
+  mark-larger (suc n) z l = sym (max-eq-left l)
+
+  -- the same call once more leaves it
+  pub mark-again : (n : ℕ) → markAfter (markAfter mark end n) end n ≡ markAfter mark end n
+  unfolding markAfter
+  mark-again zero = refl
+  mark-again (suc n) = max-eq-left (le-max-right mark end)
 
 module _ (h : Head) (area bytes : List ℕ) where
   pub cipher-refused : (n : ℕ) → headReady h area ≡ refused n
@@ -55,12 +78,13 @@ module _ (h : Head) (area bytes : List ℕ) where
     unfolding cipherCall cipher cipherCheck
     cipher-past l = rw (e, lt-leb (h .position + length bytes) limit l)
 
-    pub cipher-done : (new : Head) (s bs : List ℕ) (word : ℕ) → h .position + length bytes ≤ limit
-        → new ≡ headAt (h .code) (h .position + length bytes) word → CipheredFrom c area (h .position) bytes s bs word
+    pub cipher-done : (new : Head) (s bs : List ℕ) (word mark : ℕ) → h .position + length bytes ≤ limit
+        → new ≡ headAt (h .code) (h .position + length bytes) word mark → CipheredFrom c area (h .position) bytes s bs word
+        → mark ≡ markAfter (h .mark) (h .position + length bytes) (length bytes)
         → record { refusal = 0; value = record { engine = engineOf new s; bytes = bs } } ≡ cipherCall h area bytes
     unfolding cipherCall cipher cipherCheck
-    cipher-done new s bs word l p w =
-        rw (e, le-leb (h .position + length bytes) limit l, p, w .2, w .0, w .1, moved-on c area (h .position) (length bytes))
+    cipher-done new s bs word mark l p w m =
+        rw (e, le-leb (h .position + length bytes) limit l, p, m, w .2, w .0, w .1, moved-on c area (h .position) (length bytes))
 
 module _ (h : Head) (area : List ℕ) (d : ℤ) where
   pub move-refused : (n : ℕ) → headReady h area ≡ refused n
@@ -74,7 +98,7 @@ module _ (h : Head) (area : List ℕ) (d : ℤ) where
     unfolding moveCall move moveCheck
     move-unreached n x = rw (e, x)
 
-    pub move-done : (q : ℕ) (new : Head) (s : List ℕ) (word : ℕ) → endOf (h .position) d ≡ accepted q → new ≡ headAt (h .code) q word
+    pub move-done : (q : ℕ) (new : Head) (s : List ℕ) (word : ℕ) → endOf (h .position) d ≡ accepted q → new ≡ headAt (h .code) q word (h .mark)
         → s ≡ moved c area (h .position) q → word ≡ wordAt c s q → record { refusal = 0; value = engineOf new s } ≡ moveCall h area d
     unfolding moveCall move moveCheck
     move-done q new s word x p w v = rw (e, x, p, v, w)
@@ -190,7 +214,7 @@ module _ (h : Head) (string area : List ℕ) where
     load-none f = load-refused 12 (e ∙ rw (none-at c (words rest) position f))
 
     pub load-done : (new : Head) (s key iv : List ℕ) (word : ℕ) → isFilled c (filledAt c (words rest) position) ≡ true
-        → new ≡ headAt (codeOf c) position word → s ≡ words rest → word ≡ wordAt c s position
+        → new ≡ headAt (codeOf c) position word position → s ≡ words rest → word ≡ wordAt c s position
         → key ≡ eightWords (keyOf c (origin c (filledAt c (words rest) position)))
         → iv ≡ eightWords (ivOf c (origin c (filledAt c (words rest) position)))
         → record { refusal = 0; value = record { engine = engineOf new s; key = key; iv = iv } } ≡ loadCall h string area
@@ -204,6 +228,6 @@ module _ (h : Head) where
   spent-refused n e = rw e
 
   pub spent-done : (c : Cipher) → headCheck (h .code) (h .position) ≡ accepted c
-      → record { refusal = 0; value = record { head = h; count = h .position } } ≡ spentCall h
+      → record { refusal = 0; value = record { head = h; count = h .mark } } ≡ spentCall h
   unfolding spentCall spent
   spent-done c e = rw e

@@ -15,7 +15,7 @@ use Rattle.checkpoint.specs.Checkpoint.{layout, lengthOf, putFirst}
 use Rattle.conditions.specs.Result.{Result, accepted, Outcome, outcome, _>>=_, _>>_, refuse_unless_}
 use Rattle.conditions.specs.Conditions.{setUpCheck, readyWithWord, headCheck, cipherCheck, moveCheck, recoverCheck, loadCheck}
 use Rattle.engine.specs.declared.Head.{Head}
-use Rattle.engine.specs.Head.{headAt}
+use Rattle.engine.specs.Head.{headAt, markAfter}
 
 -- a head and its table area
 pub record Engine : Type 0 where
@@ -25,19 +25,20 @@ pub record Engine : Type 0 where
 abbrev pub engineOf : Head → List ℕ → Engine
 engineOf head area = record { head = head; area = area }
 
--- the area of a cipher at a position, with a head of this code that carries the word of that position: 'every call that changes the state keeps it true'
-abbrev pub engineAt : (code : ℕ) → Cipher → (position : ℕ) → List ℕ → Engine
-engineAt code c position area = engineOf (headAt code position (wordAt c area position)) area
+-- the area of a cipher at a position, with a head of this code and mark that carries the word of that position: 'every call that changes the state
+-- keeps it true'
+abbrev pub engineAt : (code : ℕ) → Cipher → (position mark : ℕ) → List ℕ → Engine
+engineAt code c position mark area = engineOf (headAt code position (wordAt c area position) mark) area
 
 -- the conditions that cipher, move and write begin with, of a head and its area: 1, 4, 5, 13. Recover begins with them in `recoverCheck`.
 abbrev pub headReady : Head → List ℕ → Result Cipher
 headReady h area = readyWithWord (h .code) (h .position) (h .word) area
 
--- **Set up** takes cipher code, key, IV and area; the position becomes 0.
+-- **Set up** takes cipher code, key, IV and area; the position becomes 0, and the mark starts at 0.
 unfoldable pub setUp : (code : ℕ) (key iv area : List ℕ) → Result Engine
 setUp code key iv area = do
   c ← setUpCheck code (length key) (length iv) (length area)
-  accepted (engineAt code c 0 (SetUp.setUp c key iv))
+  accepted (engineAt code c 0 0 (SetUp.setUp c key iv))
 
 unfoldable pub setUpCall : (head : Head) (code : ℕ) (key iv area : List ℕ) → Outcome Engine
 setUpCall h code key iv area = outcome (engineOf h area) (setUp code key iv area)
@@ -46,25 +47,26 @@ pub record Ciphered : Type 0 where
   pub engine : Engine
   pub bytes : List ℕ
 
--- **Cipher** replaces each lent byte by its exclusive or with the keystream byte and advances by their number.
+-- **Cipher** replaces each lent byte by its exclusive or with the keystream byte and advances by their number. A call of one byte or more makes the
+-- mark the larger of the mark and its own end.
 unfoldable pub cipher : (head : Head) (area bytes : List ℕ) → Result Ciphered
 cipher h area bytes = do
   c ← cipherCheck (headReady h area) (h .position) (length bytes)
   let end = h .position + length bytes
   accepted
       (record {
-        engine = engineAt (h .code) c end (moved c area (h .position) end);
+        engine = engineAt (h .code) c end (markAfter (h .mark) end (length bytes)) (moved c area (h .position) end);
         bytes = ciphered c area (h .position) bytes;
       })
 
 unfoldable pub cipherCall : (head : Head) (area bytes : List ℕ) → Outcome Ciphered
 cipherCall h area bytes = outcome (record { engine = engineOf h area; bytes = bytes }) (cipher h area bytes)
 
--- **Move** takes a signed 64-bit distance in bytes.
+-- **Move** takes a signed 64-bit distance in bytes. It leaves the mark.
 unfoldable pub move : (head : Head) (area : List ℕ) (distance : ℤ) → Result Engine
 move h area distance = do
   m ← moveCheck (headReady h area) (h .position) distance
-  accepted (engineAt (h .code) (m .cipher) (m .end) (moved (m .cipher) area (h .position) (m .end)))
+  accepted (engineAt (h .code) (m .cipher) (m .end) (h .mark) (moved (m .cipher) area (h .position) (m .end)))
 
 unfoldable pub moveCall : (head : Head) (area : List ℕ) (distance : ℤ) → Outcome Engine
 moveCall h area distance = outcome (engineOf h area) (move h area distance)
@@ -118,13 +120,13 @@ pub record Loaded : Type 0 where
   pub key : List ℕ
   pub iv : List ℕ
 
--- **Load** fills area and head and returns the key and IV as eight words each, unused words 0.
+-- **Load** fills area and head and returns the key and IV as eight words each, unused words 0. The mark starts at the loaded position.
 unfoldable pub load : (string area : List ℕ) → Result Loaded
 load string area = do
   l ← loadCheck string (length area)
   accepted
       (record {
-        engine = engineAt (codeOf (l .cipher)) (l .cipher) (l .position) (l .area);
+        engine = engineAt (codeOf (l .cipher)) (l .cipher) (l .position) (l .position) (l .area);
         key = eightWords (l .key);
         iv = eightWords (l .iv);
       })
@@ -137,11 +139,12 @@ pub record Counted : Type 0 where
   pub head : Head
   pub count : ℕ
 
--- **Spent** returns how many keystream bytes have been used, which is the position. 1: head's code. 5: position.
+-- **Spent** returns the farthest byte that any cipher call reached since the last set up or load, which is the head's mark, taken as given. 1: head's
+-- code. 5: position.
 unfoldable pub spent : (head : Head) → Result Counted
 spent h = do
   headCheck (h .code) (h .position)
-  accepted (record { head = h; count = h .position })
+  accepted (record { head = h; count = h .mark })
 
 unfoldable pub spentCall : (head : Head) → Outcome Counted
 spentCall h = outcome (record { head = h; count = 0 }) (spent h)

@@ -16,13 +16,14 @@ use answers::SpentAnswer;
 use answers::SpentDone;
 use answers::WriteDone;
 
-// The head: cipher code, the word we are inside, which is the output of the step last taken and 0 at position 0, and position. The order needs no
-// padding. Heads are made by the constructors below.
+// The head: cipher code; the word we are inside, which is the output of the step last taken and 0 at position 0; position; and the mark, which is the
+// farthest byte that a cipher call reached since the last set up or load. The order needs no padding. Heads are made by the constructors below.
 #[repr(C)]
 pub struct Head {
     pub code: u32,
     pub word: u32,
     pub position: u64,
+    pub mark: u64,
 }
 
 // What a write hands back that is refused, or not made since a call before it is refused.
@@ -85,18 +86,32 @@ pub fn checkpoint_length(code: u32, position: u64) -> LengthAnswer
     }
 }
 
+// The mark after a cipher call of n bytes: the larger of the mark and the end, and the mark itself where n is 0.
+fn mark_after(mark: u64, end: u64, n: u64) -> u64
+    ensures { λ r. ⌜ r ≡ Heads.markAfter mark end n ⌝ }
+{
+    if n == 0 {
+        return mark;
+    }
+    if mark < end {
+        return end;
+    }
+    mark
+}
+
 impl Head {
     // The stream limit in bytes.
     pub const LIMIT: u64 = conditions::LIMIT;
 
-    // A head of a cipher code at a position, with a word.
-    pub fn at(code: u32, position: u64, word: u32) -> Self
-        ensures { λ r. ⌜ r ≡ Heads.headAt code position word ⌝ }
+    // A head of a cipher code at a position, with a word and a mark.
+    pub fn at(code: u32, position: u64, word: u32, mark: u64) -> Self
+        ensures { λ r. ⌜ r ≡ Heads.headAt code position word mark ⌝ }
     {
         Head {
             code: code,
             word: word,
             position: position,
+            mark: mark,
         }
     }
 
@@ -104,10 +119,10 @@ impl Head {
     pub fn fresh() -> Self
         ensures { λ r. ⌜ r ≡ Heads.freshHead ⌝ }
     {
-        Head::at(0, 0, 0)
+        Head::at(0, 0, 0, 0)
     }
 
-    // Sets up an area with a key and an IV; the position becomes 0.
+    // Sets up an area with a key and an IV; position and mark become 0.
     pub fn set_up(self, code: u32, key: &[u8], iv: &[u8], area: &mut [u32]) -> Done
         ensures { λ r. ⌜
             Answers.done (r .refusal) (r .head) (now (area .exit))
@@ -125,11 +140,12 @@ impl Head {
         setup::set_up(c, key, iv, area);
         Done {
             refusal: 0,
-            head: Head::at(code, 0, 0),
+            head: Head::at(code, 0, 0, 0),
         }
     }
 
-    // Replaces each lent byte by its exclusive or with the keystream byte, and advances by their number.
+    // Replaces each lent byte by its exclusive or with the keystream byte, and advances by their number. A call of one byte or more makes the mark
+    // the larger of the mark and its end.
     pub fn cipher(self, area: &mut [u32], bytes: &mut [u8]) -> Done
         ensures { λ r. ⌜
             Answers.ciphered (r .refusal) (r .head) (now (area .exit)) (now (bytes .exit))
@@ -138,6 +154,7 @@ impl Head {
         let code = self.code;
         let position = self.position;
         let word = self.word;
+        let mark = self.mark;
         let checked = conditions::ready_with_word(code, position, word, area);
         let refusal = checked.refusal;
         if refusal != 0 {
@@ -155,13 +172,14 @@ impl Head {
         }
         let c = checked.cipher;
         let last = keystream::xor_keystream(c, area, position as usize, word, bytes);
+        let end = position + n;
         Done {
             refusal: 0,
-            head: Head::at(code, position + n, last),
+            head: Head::at(code, end, last, mark_after(mark, end, n)),
         }
     }
 
-    // Moves the tables by a signed distance in bytes.
+    // Moves the tables by a signed distance in bytes, and leaves the mark.
     pub fn move_by(self, area: &mut [u32], distance: i64) -> Done
         ensures { λ r. ⌜
             Answers.done (r .refusal) (r .head) (now (area .exit))
@@ -170,6 +188,7 @@ impl Head {
         let code = self.code;
         let position = self.position;
         let word = self.word;
+        let mark = self.mark;
         let checked = conditions::ready_with_word(code, position, word, area);
         let refusal = checked.refusal;
         if refusal != 0 {
@@ -192,7 +211,7 @@ impl Head {
         let moved = steps::word_at(c, area, to as usize);
         Done {
             refusal: 0,
-            head: Head::at(code, to, moved),
+            head: Head::at(code, to, moved, mark),
         }
     }
 
@@ -225,7 +244,7 @@ impl Head {
         }
     }
 
-    // Fills area and head from a checkpoint, and gives its key and IV.
+    // Fills area and head from a checkpoint, and gives its key and IV; the mark becomes the loaded position.
     pub fn load(self, area: &mut [u32], string: &[u8]) -> LoadDone
         ensures { λ r. ⌜
             Answers.loaded (r .answer) (r .head) (now (area .exit))
@@ -258,7 +277,7 @@ impl Head {
                 key: key,
                 iv: iv,
             },
-            head: Head::at(code, position, word),
+            head: Head::at(code, position, word, position),
         }
     }
 
@@ -308,12 +327,13 @@ impl Head {
         }
     }
 
-    // How many keystream bytes have been used, which is the position.
+    // The farthest byte that a cipher call reached since the last set up or load, which is the mark.
     pub fn spent(self) -> SpentDone
         ensures { λ r. ⌜ Answers.counted (r .answer) (r .head) ≡ Calls.spentCall self ⌝ }
     {
         let code = self.code;
         let position = self.position;
+        let mark = self.mark;
         let checked = conditions::head_check(code, position);
         let refusal = checked.refusal;
         if refusal != 0 {
@@ -322,7 +342,7 @@ impl Head {
         SpentDone {
             answer: SpentAnswer {
                 refusal: 0,
-                count: position,
+                count: mark,
             },
             head: self,
         }

@@ -7,6 +7,9 @@ use engine::answers::Done;
 // A word for heads where none is true, or where it is not looked at.
 pub const ANY: u32 = 0x0badcafe;
 
+// A mark that no call gives, over the limit and over 32 bits, for heads that are made up.
+pub const MARK: u64 = 0x0123456789abcdef;
+
 // Fills words: each is the last one plus the stride.
 pub fn fill_words(words: &mut [u32], first: u32, stride: u32) {
     let mut x = first;
@@ -160,24 +163,25 @@ pub fn word_on(code: u32, position: u64, area: &[u32]) -> u32 {
     steps::word_at(c, area, position as usize)
 }
 
-// The head of a code and a position, with the word that an area has there.
-pub fn head_on(code: u32, position: u64, area: &[u32]) -> Head {
-    Head::at(code, position, word_on(code, position, area))
+// The head of a code, a position and a mark, with the word that an area has there.
+pub fn head_on(code: u32, position: u64, mark: u64, area: &[u32]) -> Head {
+    Head::at(code, position, word_on(code, position, area), mark)
 }
 
-// A head with these bits of its word changed, none where they are 0.
+// A head with these bits of its word changed, none where they are 0, and with a made-up mark.
 pub fn flipped(head: Head, bits: u32) -> Head {
-    Head::at(head.code, head.position, head.word ^ bits)
+    Head::at(head.code, head.position, head.word ^ bits, MARK)
 }
 
-// The head of a code and a position, with the word that an area has there but for these bits.
+// The head of a code and a position, with the word that an area has there but for these bits, and with a made-up mark.
 pub fn flipped_on(code: u32, position: u64, bits: u32, area: &[u32]) -> Head {
-    flipped(head_on(code, position, area), bits)
+    flipped(head_on(code, position, MARK, area), bits)
 }
 
-// Whether two heads are the same in code, position and word.
+// Whether two heads are the same in code, position, word and mark.
 pub fn is_head(head: Head, other: Head) -> bool {
-    (head.code == other.code) & (head.position == other.position) & (head.word == other.word)
+    let place = (head.code == other.code) & (head.position == other.position);
+    place & (head.word == other.word) & (head.mark == other.mark)
 }
 
 // Whether a call gave a refusal number, 0 where it is accepted, and this head.
@@ -194,7 +198,7 @@ pub fn has_spent(head: Head, refusal: u64, count: u64) -> bool {
     (answer.refusal == refusal) & (answer.count == count) & is_head(kept, head)
 }
 
-// Whether a call was accepted and gave this head, by which spent is the position.
+// Whether a call was accepted and gave this head, by which spent is the mark.
 pub fn accepted(done: Done, head: Head) -> bool {
-    gave(done, 0, head) & has_spent(head, 0, head.position)
+    gave(done, 0, head) & has_spent(head, 0, head.mark)
 }

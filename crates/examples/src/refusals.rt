@@ -1,6 +1,7 @@
 // Calls that leave everything as it is: every refusal of every call, and calls with nothing to do, which get 0.
 ghost use Prim.Native.Nat.{_+_, _≤_};
 use crate::compare::ANY;
+use crate::compare::MARK;
 use crate::compare::fill_bytes;
 use crate::compare::fill_words;
 use crate::compare::flipped_on;
@@ -13,6 +14,7 @@ use crate::compare::put_opening;
 use crate::compare::wide;
 use crate::line;
 use engine::Head;
+use engine::answers::LoadAnswer;
 
 // The difference of neighbours where words are told apart.
 pub const STRIDE: u32 = 0x9e3779b9;
@@ -20,7 +22,7 @@ pub const STRIDE: u32 = 0x9e3779b9;
 // Whether set up gets a refusal number, and head and area stay.
 fn refuses_set_up(code: u32, key: &[u8], iv: &[u8], area: &mut [u32], refusal: u64) -> bool {
     fill_words(area, 7, STRIDE);
-    let head = Head::at(2, 77, ANY);
+    let head = Head::at(2, 77, ANY, MARK);
     let done = head.set_up(code, key, iv, area);
     has_words(area, 7, STRIDE) & gave(done, refusal, head)
 }
@@ -134,17 +136,22 @@ fn refuses_opening(
     refuses_load(string, area, refusal)
 }
 
+// Whether load gave no key and no IV.
+fn finds_nothing(answer: LoadAnswer) -> bool {
+    let key = answer.key;
+    let iv = answer.iv;
+    has_words(&key, 0, 0) & has_words(&iv, 0, 0)
+}
+
 // Whether load gets a refusal number and no key and IV, and head and area stay.
 pub fn refuses_load(string: &[u8], area: &mut [u32], refusal: u64) -> bool {
     fill_words(area, 7, STRIDE);
-    let kept = Head::at(2, 77, ANY);
+    let kept = Head::at(2, 77, ANY, MARK);
     let done = kept.load(area, string);
     let head = done.head;
     let answer = done.answer;
-    let key = answer.key;
-    let iv = answer.iv;
-    let none = has_words(&key, 0, 0) & has_words(&iv, 0, 0);
-    none & has_words(area, 7, STRIDE) & (answer.refusal == refusal) & is_head(head, kept)
+    let none = (answer.refusal == refusal) & finds_nothing(answer);
+    none & has_words(area, 7, STRIDE) & is_head(head, kept)
 }
 
 // Set up with a key, an IV and an area of these lengths.
@@ -296,7 +303,7 @@ fn spent_case(code: u32, position: u64, refusal: u64) {
     line::number(b" at ", position);
     line::gets(
         refusal,
-        has_spent(Head::at(code, position, ANY), refusal, 0),
+        has_spent(Head::at(code, position, ANY, MARK), refusal, 0),
     );
 }
 

@@ -1,6 +1,7 @@
 // What a box does with one cipher: set up, cipher, write and load checkpoints, recover, move, up to the stream limit and back.
 ghost use Prim.Native.Nat.{_≤_};
 use crate::compare::ANY;
+use crate::compare::MARK;
 use crate::compare::accepted;
 use crate::compare::are_words;
 use crate::compare::change;
@@ -52,25 +53,25 @@ pub fn sets_up(head: Head, code: u32, area: &mut [u32], first: u32) -> bool {
     fill_bytes(&mut iv, 33, 1);
     fill_words(area, first, STRIDE);
     let done = head.set_up(code, &key[..n], &iv[..n], area);
-    accepted(done, Head::at(code, 0, 0))
+    accepted(done, Head::at(code, 0, 0, 0))
 }
 
-// Whether bytes are ciphered from one position to another.
+// Whether bytes are ciphered from one position to another, and the mark goes with them.
 fn ciphers(code: u32, from: u64, to: u64, area: &mut [u32], bytes: &mut [u8]) -> bool {
-    let done = head_on(code, from, area).cipher(area, bytes);
-    accepted(done, head_on(code, to, area))
+    let done = head_on(code, from, from, area).cipher(area, bytes);
+    accepted(done, head_on(code, to, to, area))
 }
 
-// Whether an area is moved from one position to another.
+// Whether an area is moved from one position to another, and the mark stays.
 fn moves(code: u32, from: u64, distance: i64, to: u64, area: &mut [u32]) -> bool {
-    let done = head_on(code, from, area).move_by(area, distance);
-    accepted(done, head_on(code, to, area))
+    let done = head_on(code, from, MARK, area).move_by(area, distance);
+    accepted(done, head_on(code, to, MARK, area))
 }
 
 // Two areas that hold different words are set up, one by a fresh head.
 fn begins(code: u32, area: &mut [u32], other: &mut [u32]) {
     let a = sets_up(Head::fresh(), code, area, 7);
-    let b = sets_up(Head::at(3, 67_108_865, ANY), code, other, 9);
+    let b = sets_up(Head::at(3, 67_108_865, ANY, MARK), code, other, 9);
     let ok = a & b & !has_words(area, 7, STRIDE);
     report(code, 0, b"set up", ok & same_words(area, other));
 }
@@ -78,7 +79,7 @@ fn begins(code: u32, area: &mut [u32], other: &mut [u32]) {
 // Moves back to 0, to the tables that set up gives.
 fn goes_back(code: u32, from: u64, distance: i64, area: &mut [u32], other: &mut [u32]) {
     let a = moves(code, from, distance, 0, area);
-    let b = sets_up(Head::at(code, from, ANY), code, other, 9);
+    let b = sets_up(Head::at(code, from, ANY, MARK), code, other, 9);
     report(
         code,
         from,
@@ -126,8 +127,8 @@ fn comes_again(
     other: &mut [u32],
     bytes: &mut [u8],
 ) {
-    let last = cipher_in_parts(Head::at(code, 0, 0), area, bytes);
-    let a = is_head(last, head_on(code, to, area)) & has_bytes(bytes, 5, 3);
+    let last = cipher_in_parts(Head::at(code, 0, 0, 0), area, bytes);
+    let a = is_head(last, head_on(code, to, to, area)) & has_bytes(bytes, 5, 3);
     let b = moves(code, 0, distance, to, other);
     report(
         code,
@@ -154,7 +155,7 @@ fn is_checkpoint(string: &[u8], code: u32, position: &[u8], area: &[u32]) -> boo
 // Writes a checkpoint and gives its length; later bytes stay.
 fn writes(code: u32, at: u64, position: &[u8], area: &[u32], lent: &mut [u8]) -> usize {
     fill_bytes(lent, 165, 0);
-    let head = head_on(code, at, area);
+    let head = head_on(code, at, MARK, area);
     let done = head.write(area, lent);
     let kept = done.head;
     let answer = done.answer;
@@ -185,14 +186,14 @@ fn are_found(code: u32, answer: LoadAnswer) -> bool {
     eight_are(&key, n, 0x04030201) & eight_are(&iv, n, 0x24232221)
 }
 
-// Whether load gives a head, and the tables, the key and the IV that the area came from.
+// Whether load gives a head whose mark is its position, and the tables, the key and the IV that the area came from.
 fn loads(code: u32, at: u64, string: &[u8], area: &[u32], other: &mut [u32]) -> bool {
     fill_words(other, 9, STRIDE);
-    let done = Head::at(3, 67_108_865, ANY).load(other, string);
+    let done = Head::at(3, 67_108_865, ANY, MARK).load(other, string);
     let head = done.head;
     let answer = done.answer;
     let found = (answer.refusal == 0) & are_found(code, answer);
-    found & same_words(other, area) & is_head(head, head_on(code, at, area))
+    found & same_words(other, area) & is_head(head, head_on(code, at, at, area))
 }
 
 // Writes a checkpoint, loads it into another area, and gives its length.
@@ -214,7 +215,7 @@ fn one_too_few(code: u32, at: u64, bytes: usize, area: &[u32])
     requires { ⌜ bytes ≤ 8196 ⌝ }
 {
     let mut lent = [0u8; 8196];
-    let ok = refuses_write(head_on(code, at, area), area, &mut lent[..bytes], 8);
+    let ok = refuses_write(head_on(code, at, MARK, area), area, &mut lent[..bytes], 8);
     report(code, at, b"write 8 one byte too few", ok);
 }
 
@@ -285,13 +286,13 @@ fn goes_on(code: u32, area: &mut [u32], other: &mut [u32], bytes: &mut [u8]) {
 
 // Recovers nothing at a position of another word, though the head's word is the one that the area has there.
 fn recovers_nothing(code: u32, later: u64, area: &[u32], key: &mut [u8], iv: &mut [u8]) {
-    let none = refuses_recover(head_on(code, later, area), area, key, iv, 12);
+    let none = refuses_recover(head_on(code, later, MARK, area), area, key, iv, 12);
     report(code, later, b"recover 12 in another word", none);
 }
 
 // Recovers the key and the IV into buffers.
 fn recovers_both(code: u32, at: u64, area: &[u32], key: &mut [u8], iv: &mut [u8]) {
-    let head = head_on(code, at, area);
+    let head = head_on(code, at, MARK, area);
     let done = head.recover(area, key, iv);
     let found = has_bytes(key, 1, 1) & has_bytes(iv, 33, 1);
     report(code, at, b"recover", accepted(done, head) & found);

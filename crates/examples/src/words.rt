@@ -1,6 +1,7 @@
 // The word of the head: what it is after each call, when a false one gets 13, and what 13 does not notice.
 ghost use Prim.Native.Nat.{_≤_};
 use crate::compare::ANY;
+use crate::compare::MARK;
 use crate::compare::copy_words;
 use crate::compare::fill_words;
 use crate::compare::flipped;
@@ -137,21 +138,21 @@ fn word_of(four: &[u8; 4]) -> u32 {
     word::from_bytes(four[0], four[1], four[2], four[3])
 }
 
-// Moves, and enciphers four zero bytes, which are then keystream: the word is these four bytes. Gives the next head.
+// Moves, and enciphers four zero bytes, which are then keystream: the word is these four bytes, and the mark is their end. Gives the next head.
 fn four_more(head: Head, distance: i64, to: u64, area: &mut [u32]) -> Head {
     let mut four = [0u8; 4];
     let start = moved(head, area, distance);
     let next = ciphered(start, area, &mut four);
-    let ok = is_head(next, Head::at(head.code, to, word_of(&four)));
+    let ok = is_head(next, Head::at(head.code, to, word_of(&four), to));
     report(head.code, to, b"word of the last four bytes", ok);
     next
 }
 
-// Enciphers one byte, and the word is then the given one. Gives the next head.
+// Enciphers one byte; the word is then the given one, and the mark is the byte's end. Gives the next head.
 fn one_more(head: Head, to: u64, word: u32, case: &[u8], area: &mut [u32]) -> Head {
     let mut one = [0u8; 1];
     let next = ciphered(head, area, &mut one);
-    let ok = is_head(next, Head::at(head.code, to, word));
+    let ok = is_head(next, Head::at(head.code, to, word, to));
     report(head.code, to, case, ok);
     next
 }
@@ -172,17 +173,17 @@ fn second_word(head: Head, word: u32, area: &mut [u32]) {
     one_more(c, 8, word, b"word of bytes 4 to 7", area);
 }
 
-// Two areas are set up by heads with other words, and the word is then 0.
+// Two areas are set up by heads with other words and marks, and word and mark are then 0.
 fn begins(code: u32, area: &mut [u32], other: &mut [u32]) {
-    let a = sets_up(Head::at(code, 77, ANY), code, area, 7);
-    let b = sets_up(Head::at(3, 0, ANY), code, other, 9);
+    let a = sets_up(Head::at(code, 77, ANY, MARK), code, area, 7);
+    let b = sets_up(Head::at(3, 0, ANY, MARK), code, other, 9);
     report(code, 0, b"word 0 after set up", a & b);
 }
 
 // The first two words are worked out four bytes at a time with one area, and byte by byte with the other. Gives the head at 8.
 fn first_words(code: u32, area: &mut [u32], other: &mut [u32]) -> Head {
-    let four = four_more(Head::at(code, 0, 0), 0, 4, other);
-    let here = first_word(Head::at(code, 0, 0), four.word, area);
+    let four = four_more(Head::at(code, 0, 0, 0), 0, 4, other);
+    let here = first_word(Head::at(code, 0, 0, 0), four.word, area);
     let eight = four_more(four, 0, 8, other);
     report(code, 5, b"another word than at 4", eight.word != four.word);
     second_word(here, eight.word, area);
@@ -215,7 +216,7 @@ fn five_more(head: Head, area: &mut [u32]) -> Head {
 // Whether two or three bytes a time, and a last one, lead to the head of 11 bytes at once.
 fn in_parts(head: Head, area: &mut [u32]) -> bool {
     let mut one = [0u8; 1];
-    let five = five_more(Head::at(head.code, 0, 0), area);
+    let five = five_more(Head::at(head.code, 0, 0, 0), area);
     let ten = five_more(five, area);
     is_head(ciphered(ten, area, &mut one), head)
 }
@@ -232,11 +233,12 @@ fn word_in_parts(head: Head, other: &mut [u32]) {
     );
 }
 
-// Another area comes to 11 by a move.
+// Another area comes to 11 by a move, which leaves the mark at 0.
 fn word_by_move(head: Head, other: &mut [u32]) {
     let a = sets_up(head, head.code, other, 9);
-    let next = moved(Head::at(head.code, 0, 0), other, 11);
-    report(head.code, 11, b"word after a move", a & is_head(next, head));
+    let next = moved(Head::at(head.code, 0, 0, 0), other, 11);
+    let ok = a & is_head(next, Head::at(head.code, 11, head.word, 0));
+    report(head.code, 11, b"word after a move", ok);
 }
 
 // An area at 11 is moved by a turn of both tables of either cipher, and back.
@@ -337,12 +339,12 @@ fn all_13(head: Head, scene: &[u8], area: &mut [u32], kept: &[u32]) {
     recover_13(head, scene, area);
 }
 
-// Whether cipher accepts a head, and a move back then gives the same head.
+// Whether cipher accepts a head at 11, and a move back then gives the same head but for the mark, which stays at 16.
 fn goes_and_comes(head: Head, area: &mut [u32]) -> bool {
     let mut bytes = [0u8; 5];
     let there = ciphered(head, area, &mut bytes);
     let next = moved(there, area, -5);
-    is_head(next, head) & !is_head(there, head)
+    is_head(next, Head::at(head.code, 11, head.word, 16))
 }
 
 // Whether write accepts a head.
@@ -379,13 +381,13 @@ fn not_looked_at(head: Head, area: &[u32], other: &mut [u32]) {
         11,
         b"false word",
         b"spent",
-        has_spent(false_head, 0, 11),
+        has_spent(false_head, 0, MARK),
     );
 }
 
 // At 11 the word 0 is false, and so is the true word with one bit changed. A copy of the area was kept.
 fn false_words(head: Head, area: &mut [u32], kept: &[u32]) {
-    all_13(Head::at(head.code, 11, 0), b"word 0", area, kept);
+    all_13(Head::at(head.code, 11, 0, MARK), b"word 0", area, kept);
     all_13(flipped(head, LOW), b"lowest bit changed", area, kept);
     all_13(flipped(head, HIGH), b"highest bit changed", area, kept);
     all_accept(head, area, kept);
@@ -422,7 +424,7 @@ fn later_area(head: Head, area: &mut [u32], other: &mut [u32]) {
 // At 0 the word is 0 with every area, and 13 notices nothing.
 fn any_area(code: u32, area: &mut [u32], other: &mut [u32]) {
     fill_words(area, 7, STRIDE);
-    unnoticed(Head::at(code, 0, 0), b"any area", area, other);
+    unnoticed(Head::at(code, 0, 0, MARK), b"any area", area, other);
 }
 
 // ---- the scenes of a cipher
@@ -430,7 +432,7 @@ fn any_area(code: u32, area: &mut [u32], other: &mut [u32]) {
 // The word at 0, and from there to the limit.
 fn true_words(code: u32, area: &mut [u32], other: &mut [u32]) {
     begins(code, area, other);
-    all_13(Head::at(code, 0, LOW), b"word 1", area, other);
+    all_13(Head::at(code, 0, LOW, MARK), b"word 1", area, other);
     let eight = first_words(code, area, other);
     let later = turn_words(eight, other);
     last_words(later, other);
@@ -440,12 +442,12 @@ fn true_words(code: u32, area: &mut [u32], other: &mut [u32]) {
 fn eleven(code: u32, area: &mut [u32]) -> Head {
     let mut bytes = [0u8; 11];
     let done = sets_up(Head::fresh(), code, area, 7);
-    let head = ciphered(Head::at(code, 0, 0), area, &mut bytes);
+    let head = ciphered(Head::at(code, 0, 0, 0), area, &mut bytes);
     report(
         code,
         11,
         b"word after 11 bytes at once",
-        done & (head.position == 11) & (head.word != 0),
+        done & (head.position == 11) & (head.word != 0) & (head.mark == 11),
     );
     head
 }

@@ -482,7 +482,7 @@ fn put_position(string: &[u8]) {
     }
 }
 
-// Whether a checkpoint loads, and then how much keystream is spent.
+// Whether a checkpoint loads, and then how far the keystream is spent after the load.
 fn put_load(string: &[u8], area: &mut [u32]) {
     let loaded = Head::fresh().load(area, string);
     let answer = loaded.answer;
@@ -496,7 +496,12 @@ fn put_load(string: &[u8], area: &mut [u32]) {
     let head = loaded.head;
     let counted = head.spent();
     let spent = counted.answer;
-    put_number(b"spent: ", spent.count);
+    io::write_all(STDOUT_FILENO, b"spent: ");
+    io::print_decimal(STDOUT_FILENO, spent.count);
+    io::write_all(
+        STDOUT_FILENO,
+        b", where a load starts it; the box may have spent more\n",
+    );
     io::write_all(STDOUT_FILENO, b"loads: accepted\n");
 }
 

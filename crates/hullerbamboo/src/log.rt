@@ -38,7 +38,7 @@ fn since(from: u64, position: u64) -> u64 {
     position - from
 }
 
-// What one turn of the loop leaves: whether to go on, and the head.
+// What one turn of the loop leaves: whether to go on, and the head, which has passed the bytes that could not be written too.
 pub struct Turn {
     pub more: bool,
     pub head: Head,
@@ -68,11 +68,11 @@ fn pass_on(head: Head, area: &mut [u32], bytes: &mut [u8], from: u64) -> Turn
         say::refused_after(refusal, since(from, position));
         return last(head);
     }
+    let next = done.head;
     if !io::write_all(STDOUT_FILENO, bytes) {
         say::failed(b"standard output");
-        return last(head);
+        return last(next);
     }
-    let next = done.head;
     Turn {
         more: true,
         head: next,
@@ -100,6 +100,14 @@ fn report(from: u64, before: u64, after: u64) {
     }
 }
 
+// Says how much was done up to a position, and how far the keystream is spent by a head, also by bytes that could not be written.
+fn report_end(from: u64, position: u64, head: Head) {
+    say::total(since(from, position));
+    let counted = head.spent();
+    let spent = counted.answer;
+    say::spent(spent.count);
+}
+
 // Turn after turn, to the end of the log. It ends because each turn but the last takes the position closer to the limit.
 fn turns(head: Head, area: &mut [u32], buffer: &mut [u8], progress: bool) {
     let from = head.position;
@@ -107,17 +115,17 @@ fn turns(head: Head, area: &mut [u32], buffer: &mut [u8], progress: bool) {
     loop {
         let t = take_turn(h, area, buffer, from);
         let more = t.more;
+        let next = t.head;
         if !more {
+            if progress {
+                report_end(from, h.position, next);
+            }
             break;
         }
-        let next = t.head;
         if progress {
             report(from, h.position, next.position);
         }
         h = next;
-    }
-    if progress {
-        say::total(since(from, h.position));
     }
 }
 

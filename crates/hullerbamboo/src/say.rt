@@ -22,6 +22,8 @@ pub fn usage(fd: i32) {
 CIPHER is hc128 or hc256. Key and IV files hold 16 bytes each (hc128) or 32 (hc256).
 Positions count bytes, 0 to 67108864. A file to read or to make may be -, which is
 standard input or output. No file is written over.
+Spent is how far keystream has been used in this run; --progress says it at the end.
+It starts at 0 in cipher and at the checkpoint's position in open and describe.
 ",
     );
 }
@@ -155,6 +157,13 @@ pub fn progress(done: u64) {
 pub fn total(done: u64) {
     put_bytes_done(done);
     io::write_all(STDERR_FILENO, b" bytes in all\n");
+}
+
+// Says how far the keystream is spent.
+pub fn spent(count: u64) {
+    io::write_all(STDERR_FILENO, b"hullerbamboo: spent: ");
+    io::print_decimal(STDERR_FILENO, count);
+    io::write_all(STDERR_FILENO, b"\n");
 }
 
 // Begins a line of progress: how many bytes.

@@ -64,9 +64,9 @@ told-within code position o e = rw e (within (checkpointLength code position) re
     within (accepted n) e = after-length code position n e λ c q l. omega (arith, sizes c)
 
 -- HC-128 at position 0 is ready on an area of 1,024 words
-at-0 : (area : List ℕ) → length area ≡ 1024 → headReady (headAt 1 0 0) area ≡ accepted Hc128
+at-0 : (mark : ℕ) (area : List ℕ) → length area ≡ 1024 → headReady (headAt 1 0 0 mark) area ≡ accepted Hc128
 unfolding lastOutput
-at-0 area e = word-accepted Hc128 0 0 area e (omega arith) refl
+at-0 mark area e = word-accepted Hc128 0 0 area e (omega arith) refl
 
 pub checkpoint-length : CheckpointLength
 checkpoint-length = record {
@@ -78,6 +78,8 @@ checkpoint-length = record {
   at-most = at-most;
   enough = write-iff;
   too-few = write-8-iff;
-  fits-in-4098 = λ area lent e n. write-enough (headAt 1 0 0) area lent Hc128 (at-0 area e) (omega (arith, ap length (number-last 0 (omega arith))));
-  not-in-4097 = λ area lent e n. write-too-few (headAt 1 0 0) area lent Hc128 (at-0 area e) (omega (arith, ap length (number-last 0 (omega arith))));
+  fits-in-4098 = λ mark area lent e n.
+      write-enough (headAt 1 0 0 mark) area lent Hc128 (at-0 mark area e) (omega (arith, ap length (number-last 0 (omega arith))));
+  not-in-4097 = λ mark area lent e n.
+      write-too-few (headAt 1 0 0 mark) area lent Hc128 (at-0 mark area e) (omega (arith, ap length (number-last 0 (omega arith))));
 }

@@ -1,7 +1,7 @@
 -- Demand 2 holds of the calls: ciphering is with the account's keystream, recover gives its key and IV, and a move is undone by the move back.
 -- Assumes nothing.
 use mathlib.Core.Path.{_≡_, refl, sym, ap, ap₂, _∙_, subst, subst₂}
-use mathlib.Core.List.{List}
+use mathlib.Core.List.{List, []}
 use Prim.Native.Nat.{ℕ, _+_, _≤_, _<_}
 use borrow.Author.Tests.{le-leb}
 use lib.Dec.{leb}
@@ -24,46 +24,49 @@ use Rattle.setup.specs.SetUp as SetUp
 use Rattle.engine.specs.declared.Head.{Head}
 use Rattle.conditions.specs.Result.{accepted}
 use Rattle.conditions.specs.Limit.{limit}
-use Rattle.engine.specs.Head.{headAt}
+use Rattle.engine.specs.Head.{headAt, withMark, markAfter}
 use Rattle.conditions.specs.Conditions.{cipherCheck, endOf, moveCheck}
 use Rattle.engine.specs.Calls.{Engine, engineOf, engineAt, headReady, Ciphered, setUp, cipher, move, recover, spent}
-use Rattle.conditions.proofs.Conditions.{set-up-accepted, head-accepted}
-use Rattle.theorems.specs.Account.{Four, IsFour, atPosition, holds, tablesOf, engineOfFour}
+use Rattle.conditions.proofs.Conditions.{set-up-accepted}
+use Rattle.engine.proofs.Calls.{mark-again}
+use Rattle.theorems.specs.Account.{Four, IsFour, atPosition, empty, holds, tablesOf, engineOfFour}
+use Rattle.theorems.specs.Farthest.{largest}
 use Rattle.theorems.specs.Demand2.{Demand2}
 use Rattle.theorems.proofs.Results.{no-refusal, accepted-one, after-line, after-unless}
 use Rattle.theorems.proofs.Tables.{moved-area, moved-undone, undo-finds, four-true, four-moved}
 use Rattle.theorems.proofs.Twice.{ciphered-twice}
 use Rattle.theorems.proofs.Conditions.{same-code, word-shows, word-accepted, cipher-shows, move-shows, move-accepted, recover-finds}
 use Rattle.theorems.proofs.Agree.{headOf, agree, agree-four}
+use Rattle.theorems.proofs.HeadMark.{cipher-mark, four-spent}
 
 -- ── from the head and the tables of a four ──
 
-four-cipherable : (f : Four) (area bytes : List ℕ) → IsFour f → area ≡ tablesOf f → f .position + length bytes ≤ limit
-    → (r : Ciphered) × (cipher (headOf (holds f)) area bytes ≡ accepted r)
+four-cipherable : (f : Four) (mark : ℕ) (area bytes : List ℕ) → IsFour f → area ≡ tablesOf f → f .position + length bytes ≤ limit
+    → (r : Ciphered) × (cipher (headOf (holds f) mark) area bytes ≡ accepted r)
 unfolding cipher cipherCheck
-four-cipherable f area bytes h t l =
+four-cipherable f mark area bytes h t l =
     rw (four-true f area _ h t refl, le-leb (f .position + length bytes) limit l) (_, refl)
 
-four-movable : (f : Four) (d : ℤ) (end : ℕ) → IsFour f → pos (f .position) +ℤ d ≡ pos end → end ≤ limit
-    → move (headOf (holds f)) (tablesOf f) d ≡ accepted (engineOfFour (atPosition f end))
+four-movable : (f : Four) (mark : ℕ) (d : ℤ) (end : ℕ) → IsFour f → pos (f .position) +ℤ d ≡ pos end → end ≤ limit
+    → move (headOf (holds f) mark) (tablesOf f) d ≡ accepted (engineOfFour (atPosition f end) mark)
 unfolding move
-four-movable f d end h e l =
+four-movable f mark d end h e l =
     rw (
       move-accepted _ (f .cipher) (f .position) d end (four-true f (tablesOf f) _ h refl refl) e l,
       four-moved f end h,
     )
 
 -- the end of a move that is accepted
-four-moved-to : (f : Four) (d : ℤ) (e : Engine) → IsFour f → move (headOf (holds f)) (tablesOf f) d ≡ accepted e
-    → (end : ℕ) × (pos (f .position) +ℤ d ≡ pos end) × (end ≤ limit) × (e ≡ engineOfFour (atPosition f end))
+four-moved-to : (f : Four) (mark : ℕ) (d : ℤ) (e : Engine) → IsFour f → move (headOf (holds f) mark) (tablesOf f) d ≡ accepted e
+    → (end : ℕ) × (pos (f .position) +ℤ d ≡ pos end) × (end ≤ limit) × (e ≡ engineOfFour (atPosition f end) mark)
 unfolding move
-four-moved-to f d e h q =
-    after-line (moveCheck (headReady (headOf (holds f)) (tablesOf f)) (f .position) d) _ q (λ _. no-refusal) λ m e₁ r₁.
+four-moved-to f mark d e h q =
+    after-line (moveCheck (headReady (headOf (holds f) mark) (tablesOf f)) (f .position) d) _ q (λ _. no-refusal) λ m e₁ r₁.
     let a = move-shows _ (f .position) d m e₁ in
-    (m .end, a .end-is, a .end-within, accepted-one q (four-movable f d (m .end) h (a .end-is) (a .end-within)))
+    (m .end, a .end-is, a .end-within, accepted-one q (four-movable f mark d (m .end) h (a .end-is) (a .end-within)))
 
 four-set-up : (c : Cipher) (key iv area : List ℕ) → Pair c key iv → length area ≡ areaLength c
-    → setUp (codeOf c) key iv area ≡ accepted (engineOfFour (record { cipher = c; key = key; iv = iv; position = 0 }))
+    → setUp (codeOf c) key iv area ≡ accepted (engineOfFour (record { cipher = c; key = key; iv = iv; position = 0 }) 0)
 unfolding setUp tablesOf
 four-set-up c key iv area pair z =
     rw (
@@ -71,27 +74,23 @@ four-set-up c key iv area pair z =
       forward-none (step c) (SetUp.setUp c key iv) 0,
     )
 
-four-spent : (f : Four) → IsFour f → spent (headOf (holds f)) ≡ accepted (record { head = headOf (holds f); count = f .position })
-unfolding spent
-four-spent f h = rw (head-accepted (codeOf (f .cipher)) (f .position) (f .cipher) (code-of (f .cipher)) (h .within))
-
-four-enciphered : (f : Four) (area bytes : List ℕ) (r : Ciphered) → area ≡ tablesOf f
-    → cipher (headOf (holds f)) area bytes ≡ accepted r → (i : ℕ) → i < length bytes
+four-enciphered : (f : Four) (mark : ℕ) (area bytes : List ℕ) (r : Ciphered) → area ≡ tablesOf f
+    → cipher (headOf (holds f) mark) area bytes ≡ accepted r → (i : ℕ) → i < length bytes
     → getD (r .bytes) i 0 ≡ getD bytes i 0 ⊕ keystream (f .cipher) (SetUp.setUp (f .cipher) (f .key) (f .iv)) (f .position + i)
 unfolding cipher tablesOf
-four-enciphered f area bytes r t e i l =
-    after-line (cipherCheck (headReady (headOf (holds f)) area) (f .position) (length bytes)) _ e (λ _. no-refusal) λ c e₁ r₁.
+four-enciphered f mark area bytes r t e i l =
+    after-line (cipherCheck (headReady (headOf (holds f) mark) area) (f .position) (length bytes)) _ e (λ _. no-refusal) λ c e₁ r₁.
     let shows = word-shows (codeOf (f .cipher)) (f .position) _ area c (cipher-shows _ (f .position) (length bytes) c e₁ .0) in
     let same : c ≡ f .cipher = sym (same-code (f .cipher) c (shows .is-ready .code-is)) in
     ap (λ (x : Ciphered). getD (x .bytes) i 0) (sym (accepted-one refl r₁))
     ∙ ap₂ (λ (d : Cipher) (s : List ℕ). getD (ciphered d s (f .position) bytes) i 0) same t
     ∙ ciphered-keystream (f .cipher) _ (f .position) bytes i l
 
-four-recovered : (f : Four) (area key iv : List ℕ) → IsFour f → area ≡ tablesOf f
+four-recovered : (f : Four) (mark : ℕ) (area key iv : List ℕ) → IsFour f → area ≡ tablesOf f
     → length key ≡ keyLength (f .cipher) → length iv ≡ ivLength (f .cipher)
-    → recover (headOf (holds f)) area key iv ≡ accepted (record { engine = engineOf (headOf (holds f)) area; key = f .key; iv = f .iv })
+    → recover (headOf (holds f) mark) area key iv ≡ accepted (record { engine = engineOf (headOf (holds f) mark) area; key = f .key; iv = f .iv })
 unfolding recover tablesOf
-four-recovered f area key iv h t kn vn =
+four-recovered f mark area key iv h t kn vn =
     let r =
     recover-finds (codeOf (f .cipher)) (f .position) _ area (length key) (length iv) (f .cipher)
     (word-shows (codeOf (f .cipher)) (f .position) _ area (f .cipher) (four-true f area _ h t refl))
@@ -107,9 +106,9 @@ as-long h area bytes r e =
     after-line (cipherCheck (headReady h area) (h .position) (length bytes)) _ e (λ _. no-refusal) λ c e₁ r₁.
     ap (λ (x : Ciphered). length (x .bytes)) (sym (accepted-one refl r₁)) ∙ length-ciphered c area (h .position) bytes
 
-module _ (c : Cipher) (p q : ℕ) (s : List ℕ) (d : ℤ) (area : Area c s) (p-within : p ≤ limit) (q-within : q ≤ limit) where
+module _ (c : Cipher) (p q mark : ℕ) (s : List ℕ) (d : ℤ) (area : Area c s) (p-within : p ≤ limit) (q-within : q ≤ limit) where
   back-accepted : pos p +ℤ d ≡ pos q
-      → move (headAt (codeOf c) q (wordAt c (moved c s p q) q)) (moved c s p q) (negℤ d) ≡ accepted (engineAt (codeOf c) c p s)
+      → move (headAt (codeOf c) q (wordAt c (moved c s p q) q) mark) (moved c s p q) (negℤ d) ≡ accepted (engineAt (codeOf c) c p mark s)
   unfolding move
   back-accepted e =
       let back : pos q +ℤ negℤ d ≡ pos p = ap (λ (x : ℤ). x +ℤ negℤ d) (sym e) ∙ +ℤ-negℤ-cancel (pos p) d in
@@ -135,27 +134,39 @@ move-undone h area d there all e =
     (λ (x : Engine). move (x .head) (x .area) (negℤ d) ≡ accepted (engineOf h area))
     (accepted-one refl r₁)
     (subst₂
-    (λ (n v : ℕ). move (headAt n q (wordAt c (moved c area p q) q)) (moved c area p q) (negℤ d) ≡ accepted (engineOf (headAt n p v) area))
+    (λ (n v : ℕ).
+    move (headAt n q (wordAt c (moved c area p q) q) (h .mark)) (moved c area p q) (negℤ d) ≡ accepted (engineOf (headAt n p v (h .mark)) area))
     (sym (r .code-is))
     (sym (w .word-is))
-    (back-accepted c p q area d s (r .within-limit) (a .end-within) (a .end-is)))
+    (back-accepted c p q (h .mark) area d s (r .within-limit) (a .end-within) (a .end-is)))
 
--- what a cipher call leaves is what the move by the number of its bytes leaves, and from the same head it gives the bytes back
+-- what a cipher call leaves is, but for the mark, what the move by the number of its bytes leaves, and from the same position it gives the bytes back
 module _ (h : Head) (area bytes : List ℕ) (r : Ciphered) (e : cipher h area bytes ≡ accepted r) where
-  as-moved : move h area (pos (length bytes)) ≡ accepted (r .engine)
+  as-moved : move (withMark h (r .engine .head .mark)) area (pos (length bytes)) ≡ accepted (r .engine)
   unfolding cipher cipherCheck move moveCheck endOf
   as-moved =
       after-line (cipherCheck (headReady h area) (h .position) (length bytes)) _ e (λ _. no-refusal) λ c e₁ r₁.
       after-line (headReady h area) _ e₁ (λ _. no-refusal) λ d e₂ r₂.
       after-unless 6 (leb (h .position + length bytes) limit) _ r₂ no-refusal λ e₃ r₃.
-      rw (e₂, e₃, accepted-one refl r₃) (ap (λ (x : Ciphered). accepted (x .engine)) (accepted-one refl r₁))
+      subst (λ (x : Ciphered). move (withMark h (x .engine .head .mark)) area (pos (length bytes)) ≡ accepted (x .engine)) (accepted-one refl r₁)
+      (rw (e₂, e₃, accepted-one refl r₃))
 
-  given-back : cipher h area (r .bytes) ≡ accepted (record { engine = r .engine; bytes = bytes })
+  -- whatever the mark was from which the same one comes
+  given-back : (mark : ℕ) → markAfter mark (h .position + length bytes) (length bytes) ≡ r .engine .head .mark
+      → cipher (withMark h mark) area (r .bytes) ≡ accepted (record { engine = r .engine; bytes = bytes })
   unfolding cipher
-  given-back =
+  given-back mark =
       after-line (cipherCheck (headReady h area) (h .position) (length bytes)) _ e (λ _. no-refusal) λ c e₁ r₁.
-      subst (λ (x : Ciphered). cipher h area (x .bytes) ≡ accepted (record { engine = x .engine; bytes = bytes })) (accepted-one refl r₁)
-      (rw (length-ciphered c area (h .position) bytes, e₁, ciphered-twice c area (h .position) bytes))
+      subst
+      (λ (x : Ciphered).
+      markAfter mark (h .position + length bytes) (length bytes) ≡ x .engine .head .mark
+      → cipher (withMark h mark) area (x .bytes) ≡ accepted (record { engine = x .engine; bytes = bytes }))
+      (accepted-one refl r₁)
+      (λ m. rw (length-ciphered c area (h .position) bytes, e₁, m, ciphered-twice c area (h .position) bytes))
+
+none-reached : largest [] ≡ 0
+unfolding largest
+none-reached = refl
 
 pub demand2 : Demand2
 demand2 = record {
@@ -164,30 +175,32 @@ demand2 = record {
       λ i. record { head = h .head-is i; area = h .tables-are .1 i };
   untouched = λ calls g area e.
       let h = rw e at (agree calls g area) in
-      λ i. record { head = h .head-is i; area = h .tables-are i };
+      λ i. record { head = (h .head-is ∙ ap (headOf empty) (ap largest (h .reached-is) ∙ none-reached)) i; area = h .tables-are i };
   set-up-accepted = four-set-up;
   spent-is = λ calls g area f e.
       let h = agree-four calls g area f e in
-      rw (h .head-is) (four-spent f (h .tables-are .0));
+      rw (h .head-is) (four-spent f _ (h .tables-are .0));
   cipherable = λ calls g area bytes f e l.
       let h = agree-four calls g area f e in
-      rw (h .head-is) (four-cipherable f _ bytes (h .tables-are .0) (h .tables-are .1) l);
+      rw (h .head-is) (four-cipherable f _ _ bytes (h .tables-are .0) (h .tables-are .1) l);
   movable = λ calls g area d f end e q l.
       let h = agree-four calls g area f e in
-      rw (h .head-is, h .tables-are .1) (four-movable f d end (h .tables-are .0) q l);
+      rw (h .head-is, h .tables-are .1) (four-movable f _ d end (h .tables-are .0) q l);
   moved = λ calls g area d f there e q.
       let h = agree-four calls g area f e in
-      four-moved-to f d there (h .tables-are .0) (rw (h .head-is, h .tables-are .1) at q);
+      four-moved-to f _ d there (h .tables-are .0) (rw (h .head-is, h .tables-are .1) at q);
   enciphered = λ calls g area bytes f e r q.
       let h = agree-four calls g area f e in
-      four-enciphered f _ bytes r (h .tables-are .1) (rw (h .head-is) at q);
+      four-enciphered f _ _ bytes r (h .tables-are .1) (rw (h .head-is) at q);
   recovered = λ calls g area key iv f e kn vn.
       let h = agree-four calls g area f e in
-      rw (h .head-is) (four-recovered f _ key iv (h .tables-are .0) (h .tables-are .1) kn vn);
+      rw (h .head-is) (four-recovered f _ _ key iv (h .tables-are .0) (h .tables-are .1) kn vn);
   as-long = as-long;
   moved-back = move-undone;
   ciphered-back = λ h area bytes r all e. (
-    move-undone h area (pos (length bytes)) (r .engine) all (as-moved h area bytes r e),
-    given-back h area bytes r e,
+    move-undone (withMark h (r .engine .head .mark)) area (pos (length bytes)) (r .engine) all (as-moved h area bytes r e),
+    given-back h area bytes r e (r .engine .head .mark)
+        (rw (cipher-mark h area bytes r e) (mark-again (h .mark) (h .position + length bytes) (length bytes))),
+    given-back h area bytes r e (h .mark) (sym (cipher-mark h area bytes r e)),
   );
 }

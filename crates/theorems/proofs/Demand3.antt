@@ -19,6 +19,7 @@ use Rattle.engine.specs.declared.Head.{Head}
 use Rattle.engine.specs.Calls.{engineOf, engineAt, Written, Loaded, eightWords, write, load}
 use Rattle.conditions.proofs.Conditions.{set-up-accepted, ready-unknown, ready-accepted}
 use Rattle.theorems.specs.Account.{Call, call-set-up, call-cipher, call-move, call-write, call-recover, call-load, call-spent, AllGiven, answered, Four, IsFour, Account, empty, holds, unless-refused, feed, account, engineAfter, accountAfter, checkpointOf, Checkpoint}
+use Rattle.theorems.specs.Farthest.{farthestAfter}
 use Rattle.theorems.specs.Demand3.{writeAfter, given, Names, Demand3}
 use Rattle.theorems.proofs.Results.{no-refusal, accepted-one, after-line}
 use Rattle.theorems.proofs.Tables.{four-ready, four-true}
@@ -33,26 +34,26 @@ use Rattle.theorems.proofs.Agree.{headOf, TablesAre, agree, agree-four}
 
 -- ── what is written ──
 
--- from the head of a four
-four-write-shows : (f : Four) (area lent : List ℕ) (w : Written) → write (headOf (holds f)) area lent ≡ accepted w
-    → WriteShows (headOf (holds f)) area lent w (f .cipher)
-four-write-shows f area lent w e =
-    let (c, s) = write-shows (headOf (holds f)) area lent w e in
-    subst (WriteShows (headOf (holds f)) area lent w) (sym (same-code (f .cipher) c (s .is-ready .code-is))) s
+-- from the head of a four, whatever its mark
+four-write-shows : (f : Four) (mark : ℕ) (area lent : List ℕ) (w : Written) → write (headOf (holds f) mark) area lent ≡ accepted w
+    → WriteShows (headOf (holds f) mark) area lent w (f .cipher)
+four-write-shows f mark area lent w e =
+    let (c, s) = write-shows (headOf (holds f) mark) area lent w e in
+    subst (WriteShows (headOf (holds f) mark) area lent w) (sym (same-code (f .cipher) c (s .is-ready .code-is))) s
 
 -- the account is a four whose checkpoint the write has given
 abbrev GivesCheckpoint : Account → Written → Type 0
 GivesCheckpoint a w = (f : Four) × (a ≡ holds f) × Checkpoint (given w) f
 
 -- a write from an account's head and tables
-write-gives : (start : List ℕ) (a : Account) (area lent : List ℕ) (w : Written) → TablesAre start a area
-    → write (headOf a) area lent ≡ accepted w → GivesCheckpoint a w
+write-gives : (start : List ℕ) (a : Account) (mark : ℕ) (area lent : List ℕ) (w : Written) → TablesAre start a area
+    → write (headOf a mark) area lent ≡ accepted w → GivesCheckpoint a w
 unfolding checkpointOf
-write-gives start empty area lent w t e =
-    let (c, s) = write-shows (headOf empty) area lent w e in
+write-gives start empty mark area lent w t e =
+    let (c, s) = write-shows (headOf empty mark) area lent w e in
     absurd (no-code-0 c (s .is-ready .code-is))
-write-gives start (holds f) area lent w t e =
-    let s = four-write-shows f area lent w e in
+write-gives start (holds f) mark area lent w t e =
+    let s = four-write-shows f mark area lent w e in
     (f, refl, record { is-four = t .0; string-is = s .string ∙ ap (layout (f .cipher) (f .position)) (t .1) })
 
 written :
@@ -60,7 +61,7 @@ written :
     → writeAfter calls area lent ≡ accepted w → GivesCheckpoint (accountAfter calls area) w
 written calls g area lent w e =
     let h = agree calls g area in
-    write-gives area (accountAfter calls area) (engineAfter calls area .area) lent w (h .tables-are) (rw (h .head-is) at e)
+    write-gives area (accountAfter calls area) _ (engineAfter calls area .area) lent w (h .tables-are) (rw (h .head-is) at e)
 
 fits :
     (calls : List Call) → AllGiven calls → (area lent : List ℕ) (f : Four) (w : Written)
@@ -69,7 +70,7 @@ fits :
     × (w .lent ≡ given w ++ drop (w .length) lent)
 fits calls g area lent f w q e =
     let h = agree-four calls g area f q in
-    let s = four-write-shows f (engineAfter calls area .area) lent w (rw (h .head-is) at e) in
+    let s = four-write-shows f _ (engineAfter calls area .area) lent w (rw (h .head-is) at e) in
     let l = length-longest (f .cipher) (f .position) (omega (arith, h .tables-are .0 .within)) in
     (s .length-is, omega (arith, s .length-is), s .as-long, s .later)
 
@@ -80,37 +81,40 @@ writable :
 writable calls g area lent f e =
     let h = agree-four calls g area f e in
     let s = engineAfter calls area .area in
-    rw (h .head-is) (write-iff (headOf (holds f)) s lent (f .cipher) (four-true f s _ (h .tables-are .0) (h .tables-are .1) refl))
+    rw (h .head-is) (write-iff (headOf (holds f) (farthestAfter calls area)) s lent (f .cipher) (four-true f s _ (h .tables-are .0) (h .tables-are .1) refl))
 
 -- from an account's head and tables no call answers 13: where the account is a four the word is true, and where it is empty 1 comes first
-true-compares : {A : Type 0} (start : List ℕ) (a : Account) (s : List ℕ) (result : Result A) → TablesAre start a s → Compares (headOf a) s result
-    → result ≡ refused 13 → ⊥
+true-compares : {A : Type 0} (start : List ℕ) (a : Account) (mark : ℕ) (s : List ℕ) (result : Result A) → TablesAre start a s
+    → Compares (headOf a mark) s result → result ≡ refused 13 → ⊥
 unfolding byCode
-true-compares start empty s result t c q =
+true-compares start empty mark s result t c q =
     let z : _≡_ {A = ℕ} 13 1 = cc (q, c .before-13 1 (ready-unknown 0 0 (length s) refl)) in omega arith
-true-compares start (holds f) s result t c q =
+true-compares start (holds f) mark s result t c q =
     c .gives-13 (f .cipher) (four-ready f s (t .0) (t .1)) .0 q (ap (λ (x : List ℕ). wordAt (f .cipher) x (f .position)) (sym (t .1)))
 
-module _ (start : List ℕ) (a : Account) (s : List ℕ) (t : TablesAre start a s) where
-  answers-no-13 : (call : Call) → answered (engineOf (headOf a) s) call ≡ 13 → ⊥
+module _ (start : List ℕ) (a : Account) (mark : ℕ) (s : List ℕ) (t : TablesAre start a s) where
+  abbrev h : Head
+  h = headOf a mark
+
+  answers-no-13 : (call : Call) → answered (engineOf h s) call ≡ 13 → ⊥
   unfolding answered
-  answers-no-13 (call-set-up code key iv) q = not-one-of (demand1 .of-set-up (headOf a) code key iv s) q refl
+  answers-no-13 (call-set-up code key iv) q = not-one-of (demand1 .of-set-up h code key iv s) q refl
   answers-no-13 (call-cipher bytes) q =
-      true-compares start a s _ t (cipher-compares (headOf a) s bytes) (answers-13 (demand1 .of-cipher (headOf a) s bytes) q)
+      true-compares start a mark s _ t (cipher-compares h s bytes) (answers-13 (demand1 .of-cipher h s bytes) q)
   answers-no-13 (call-move distance) q =
-      true-compares start a s _ t (move-compares (headOf a) s distance) (answers-13 (demand1 .of-move (headOf a) s distance) q)
+      true-compares start a mark s _ t (move-compares h s distance) (answers-13 (demand1 .of-move h s distance) q)
   answers-no-13 (call-write lent) q =
-      true-compares start a s _ t (write-compares (headOf a) s lent) (answers-13 (demand1 .of-write (headOf a) s lent) q)
+      true-compares start a mark s _ t (write-compares h s lent) (answers-13 (demand1 .of-write h s lent) q)
   answers-no-13 (call-recover key iv) q =
-      true-compares start a s _ t (recover-compares (headOf a) s key iv) (answers-13 (demand1 .of-recover (headOf a) s key iv) q)
-  answers-no-13 (call-load string) q = not-one-of (demand1 .of-load (headOf a) string s) q refl
-  answers-no-13 call-spent q = not-one-of (demand1 .of-spent (headOf a)) q refl
+      true-compares start a mark s _ t (recover-compares h s key iv) (answers-13 (demand1 .of-recover h s key iv) q)
+  answers-no-13 (call-load string) q = not-one-of (demand1 .of-load h string s) q refl
+  answers-no-13 call-spent q = not-one-of (demand1 .of-spent h) q refl
 
 never-13 :
     (calls : List Call) → AllGiven calls → (area : List ℕ) (call : Call) → answered (engineAfter calls area) call ≡ 13 → ⊥
 never-13 calls g area call q =
     let h = agree calls g area in
-    answers-no-13 area (accountAfter calls area) (engineAfter calls area .area) (h .tables-are) call
+    answers-no-13 area (accountAfter calls area) _ (engineAfter calls area .area) (h .tables-are) call
     (subst (λ (x : Head). answered (engineOf x (engineAfter calls area .area)) call ≡ 13) (h .head-is) q)
 
 -- a set up, and then a move
@@ -147,7 +151,7 @@ compared calls calls′ g g′ area area′ lent lent′ w w′ e e′ =
 -- the answer of an accepted load
 abbrev openedOf : Contents → Loaded
 openedOf l = record {
-  engine = engineAt (codeOf (l .cipher)) (l .cipher) (l .position) (l .area);
+  engine = engineAt (codeOf (l .cipher)) (l .cipher) (l .position) (l .position) (l .area);
   key = eightWords (l .key);
   iv = eightWords (l .iv);
 }

@@ -17,7 +17,7 @@ use Rattle.keystream.proofs.Positions.{moved-on}
 use Rattle.conditions.specs.Result.{accepted}
 use Rattle.conditions.specs.Conditions.{setUpCheck, cipherCheck, moveCheck, loadCheck}
 use Rattle.engine.specs.declared.Head.{Head}
-use Rattle.engine.specs.Head.{headAt}
+use Rattle.engine.specs.Head.{headAt, markAfter}
 use Rattle.engine.specs.Calls.{Engine, engineOf, headReady, Ciphered, Loaded, setUp, cipher, move, load}
 use Rattle.theorems.specs.HeadWord.{TrueWord, HeadWord}
 use Rattle.theorems.proofs.Results.{no-refusal, accepted-one, after-line}
@@ -62,13 +62,13 @@ load-leaves string area o q =
     (record { cipher = l .cipher; code-is = refl; word-is = refl })
 
 no-bytes : (h : Head) (area : List ℕ) (r : Ciphered) → cipher h area [] ≡ accepted r → r ≡ record { engine = engineOf h area; bytes = [] }
-unfolding cipher ciphered
+unfolding cipher ciphered markAfter
 no-bytes h area r q =
     after-line (cipherCheck (headReady h area) (h .position) 0) _ q (λ _. no-refusal) λ c e₁ r₁.
     let w = word-shows (h .code) (h .position) (h .word) area c (cipher-shows _ (h .position) 0 c e₁ .0) in
     sym (accepted-one refl r₁)
     ∙ rw (moved-on c area (h .position) 0, forward-none (tablesNext c) area (h .position), add-zero (h .position))
-    (ap (λ (v : ℕ). record { engine = engineOf (headAt (h .code) (h .position) v) area; bytes = [] }) (sym (w .word-is)))
+    (ap (λ (v : ℕ). record { engine = engineOf (headAt (h .code) (h .position) v (h .mark)) area; bytes = [] }) (sym (w .word-is)))
 
 pub head-word : HeadWord
 head-word = record {

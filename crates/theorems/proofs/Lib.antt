@@ -15,6 +15,7 @@ pub mod Writes
 pub mod Agree
 pub mod Compares
 pub mod HeadWord
+pub mod HeadMark
 pub mod Demand3
 pub mod CheckpointLength
 pub mod Refusal12

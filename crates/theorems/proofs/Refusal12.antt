@@ -128,8 +128,8 @@ refusal12 = record {
       let (s, area, n) = tables-of-none c p in (
         s,
         area,
-        (λ key iv kn vn.
-            recover-refused (headAt (codeOf c) p (wordAt c s p)) s key iv (area .words)
+        (λ mark key iv kn vn.
+            recover-refused (headAt (codeOf c) p (wordAt c s p) mark) s key iv (area .words)
             (record { cipher = c; code-is = refl; sized = area .sized; within = l; word-is = refl; key-long = kn; iv-long = vn; none-have = n })),
         (λ lent z.
             load-refused (layout c p s) lent

@@ -107,10 +107,10 @@ abbrev pub at : Account → ℕ → Account
 at empty p = empty
 at (holds f) p = holds (atPosition f p)
 
--- 'a call that they refuse leaves the account'
-abbrev pub unless-refused : {A : Type 0} → Account → Result A → (A → Account) → Account
-unless-refused a (refused n) f = a
-unless-refused a (accepted x) f = f x
+-- 'a call that they refuse leaves the account', and whatever else is counted from the calls
+abbrev pub unless-refused : {A B : Type 0} → B → Result A → (A → B) → B
+unless-refused old (refused n) f = old
+unless-refused old (accepted x) f = f x
 
 -- the account after one call, from the call's arguments and the area's size, and nothing else
 unfoldable pub feed : ℕ → Account → Call → Account
@@ -148,9 +148,9 @@ accountAfter calls area = account (length area) calls empty
 unfoldable pub tablesOf : Four → List ℕ
 tablesOf f = steps (f .cipher) (SetUp.setUp (f .cipher) (f .key) (f .iv)) 0 (stepsAt (f .position))
 
--- those tables, and the head of that code and position with the word that the tables have there
-abbrev pub engineOfFour : Four → Engine
-engineOfFour f = engineAt (codeOf (f .cipher)) (f .cipher) (f .position) (tablesOf f)
+-- those tables, and the head of that code and position with the word that the tables have there; the mark is no part of a four
+abbrev pub engineOfFour : Four → (mark : ℕ) → Engine
+engineOfFour f mark = engineAt (codeOf (f .cipher)) (f .cipher) (f .position) mark (tablesOf f)
 
 unfoldable pub checkpointOf : Four → List ℕ
 checkpointOf f = layout (f .cipher) (f .position) (tablesOf f)

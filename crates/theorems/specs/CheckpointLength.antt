@@ -40,6 +40,6 @@ pub record CheckpointLength : Type 0 where
       → (write h area lent ≡ refused 8) ↔ (length lent < lengthOf c (h .position))
   -- 'An HC-128 checkpoint at position 0 fits in 4,098 bytes ..
   pub fits-in-4098 :
-      (area lent : List ℕ) → length area ≡ 1024 → length lent ≡ 4098 → (w : Written) × (write (headAt 1 0 0) area lent ≡ accepted w)
+      (mark : ℕ) (area lent : List ℕ) → length area ≡ 1024 → length lent ≡ 4098 → (w : Written) × (write (headAt 1 0 0 mark) area lent ≡ accepted w)
   -- .. and not in 4,097.'
-  pub not-in-4097 : (area lent : List ℕ) → length area ≡ 1024 → length lent ≡ 4097 → write (headAt 1 0 0) area lent ≡ refused 8
+  pub not-in-4097 : (mark : ℕ) (area lent : List ℕ) → length area ≡ 1024 → length lent ≡ 4097 → write (headAt 1 0 0 mark) area lent ≡ refused 8

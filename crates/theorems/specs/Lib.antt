@@ -4,8 +4,10 @@ pub mod Starred
 pub mod Demand1
 pub mod Stream
 pub mod Account
+pub mod Farthest
 pub mod Demand3
 pub mod Demand2
 pub mod Refusal12
 pub mod CheckpointLength
 pub mod HeadWord
+pub mod HeadMark

@@ -47,10 +47,12 @@ pub record LoadNone (string area : List ℕ) : Type 0 where
 pub record Refusal12 : Type 0 where
   pub of-recover : (h : Head) (area key iv : List ℕ) → AllWords area → recover h area key iv ≡ refused 12 ↔ RecoverNone h area key iv
   pub of-load : (string area : List ℕ) → AllBytes string → load string area ≡ refused 12 ↔ LoadNone string area
-  -- 'Refusal 12 does occur': for both ciphers and at every position some area is refused with 12 by recover, from a head that has that area's word and
-  -- whatever buffers of the cipher's lengths are lent, and, in a string laid out as a checkpoint, by load, whatever area of the cipher's size is lent.
+  -- 'Refusal 12 does occur': for both ciphers and at every position some area is refused with 12 by recover, from a head that has that area's word,
+  -- whatever its mark and whatever buffers of the cipher's lengths are lent, and, in a string laid out as a checkpoint, by load, whatever area of the
+  -- cipher's size is lent.
   pub occurs :
       (c : Cipher) (p : ℕ) → p ≤ limit
       → (s : List ℕ) × Area c s
-      × ((key iv : List ℕ) → length key ≡ keyLength c → length iv ≡ ivLength c → recover (headAt (codeOf c) p (wordAt c s p)) s key iv ≡ refused 12)
+      × ((mark : ℕ) (key iv : List ℕ) → length key ≡ keyLength c → length iv ≡ ivLength c
+      → recover (headAt (codeOf c) p (wordAt c s p) mark) s key iv ≡ refused 12)
       × ((area : List ℕ) → length area ≡ areaLength c → load (layout c p s) area ≡ refused 12)

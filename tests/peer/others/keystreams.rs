@@ -23,7 +23,7 @@ fn main() {
     for _ in 0..numbers[1] {
         for (code, key_bytes, area_words) in [(1, 16, 1024), (2, 32, 2048)] {
             let (key, iv) = (random.bytes(key_bytes), random.bytes(key_bytes));
-            let mut head = HcHead { code: 0, word: 0, position: 0 };
+            let mut head = HcHead { code: 0, word: 0, position: 0, mark: 0 };
             let mut area = vec![0u32; area_words];
             let mut stream = vec![0u8; STREAM_BYTES];
             let area_pointer = area.as_mut_ptr();

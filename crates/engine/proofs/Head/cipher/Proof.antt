@@ -27,13 +27,14 @@ xor-keystream-requires c κs =
 
 returns-3 : tie.Need-returns-3
 returns-3 c =
-    let done = c .before .before .before .before .before in
+    let done = c .before .before .before .before .before .before in
     let tested = done .before .before .before in
     let checked = tested .before .before .ready-with-word .ensures in
     let l = checked .1 .is-ready .within (tested .before .if1 .left) in
-    cipher-done _ _ _ _ (is-accepted _ _ _ (checked .0) (tested .before .if1 .left)) _ _ _ _ (omega arith) (c .at .ensures) (done .xor-keystream .ensures)
+    cipher-done _ _ _ _ (is-accepted _ _ _ (checked .0) (tested .before .if1 .left)) _ _ _ _ _ (omega arith) (c .at .ensures) (done .xor-keystream .ensures)
+    (c .before .mark-after .ensures)
 
 pub cipher-spec : {M : Type 1} → statement M
 cipher-spec =
     let a₁ = tie.spec (λ c κs. search needs) (λ c. search needs) returns sub-if2 (λ c. search needs) returns-2 xor-keystream-requires in
-    tie.close (a₁ (λ c. search needs) (λ c κs. search needs) (λ c. search needs) (λ c. search needs) returns-3)
+    tie.close (a₁ (λ c. search needs) (λ c κs. search needs) (λ c κs. search needs) (λ c. search needs) (λ c. search needs) returns-3)

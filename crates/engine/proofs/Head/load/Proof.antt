@@ -65,7 +65,7 @@ returns-3 c =
     let w = found .result .words in
     load-done _ _ _ _ _ _ (beginning .ensures .passed-is (begun .if1 .left)) _ _ _ _ _
     (sym (found .ensures .filled-is) ∙ not-false _ (filled .if2 .left))
-    (c .at .ensures ∙ ap (λ (x : ℕ). headAt x (beginning .result .position) (c .before .word-at .result)) (coded .code-of .ensures))
+    (c .at .ensures ∙ ap (λ (x : ℕ). headAt x (beginning .result .position) (c .before .word-at .result) (beginning .result .position)) (coded .code-of .ensures))
     (keyed .before .before .before .read-words .ensures) (c .before .word-at .ensures)
     (key-words _ w _ (λ k. words-fit (filled .before) k .fits) (sixteen (filled .before)) (found .ensures .words-are) _ _ (keyed .key-bytes .ensures .0) (c .before .before .before .before .eight-words .ensures))
     (iv-words _ w _ (λ k. words-fit (filled .before) k .fits) (sixteen (filled .before)) (found .ensures .words-are) _ _ (ived .iv-bytes .ensures .0) (c .before .before .before .eight-words2 .ensures))

@@ -18,20 +18,20 @@ abbrev μ-loop : tie.MeasureT-loop
 
 loop-less : tie.Need-loop-less Inv-loop μ-loop
 loop-less c =
-    let tested = c .before .before .before in
-    let turn = tested .before .before .before .before .before .take-turn .ensures in
+    let tested = c .before .before in
+    let turn = tested .before .before .before .before .before .before .take-turn .ensures in
     let more = not-false _ (tested .if1 .left) in
     omega (arith, turn .grown more, turn .within more)
 
 loop-less-2 : tie.Need-loop-less-2 Inv-loop μ-loop
 loop-less-2 c =
-    let tested = c .before .before in
-    let turn = tested .before .before .before .before .before .take-turn .ensures in
+    let tested = c .before in
+    let turn = tested .before .before .before .before .before .before .take-turn .ensures in
     let more = not-false _ (tested .if1 .left) in
     omega (arith, turn .grown more, turn .within more)
 
 pub turns-spec : {M : Type 1} → statement M
 turns-spec =
-    let a₁ = tie.spec Inv-loop μ-loop (λ c. search needs) (λ c κs. search needs) (λ c κs. search needs) loop-less (λ c. search needs) in
-    let a₂ = a₁ loop-less-2 (λ c. search needs) (λ c κs. search needs) (λ c κs. search needs) (λ c. search needs) (λ c. search needs) in
-    tie.close (a₂ (λ c. search needs) (λ c. search needs) (λ c. search needs) (λ c. search needs))
+    let a₁ = tie.spec Inv-loop μ-loop (λ c. search needs) (λ c κs. search needs) (λ c κs. search needs) (λ c κs. search needs) loop-less in
+    let a₂ = a₁ (λ c. search needs) loop-less-2 (λ c. search needs) (λ c. search needs) (λ c. search needs) (λ c. search needs) in
+    tie.close (a₂ (λ c. search needs) (λ c. search needs) (λ c. search needs))

@@ -1,0 +1,43 @@
+//! How far the cipher calls of a list reached, counted from the calls and their answers alone, without head and tables.
+
+#[derive(Default)]
+pub struct Count {
+    /// Where the last accepted call ended.
+    pub position: u64,
+    /// The farthest end of a cipher call of one byte or more since the last set up or load.
+    pub farthest: u64,
+}
+
+impl Count {
+    /// An accepted set up.
+    pub fn set_up(&mut self) {
+        *self = Count { position: 0, farthest: 0 };
+    }
+
+    /// An accepted load of this string, whose position stands after the code.
+    pub fn load(&mut self, string: &[u8]) {
+        let mut position = 0;
+        let mut worth = 1;
+        for byte in &string[1..] {
+            position += (*byte as u64 & 0x7F) * worth;
+            worth *= 0x80;
+            if byte & 0x80 == 0 {
+                break;
+            }
+        }
+        *self = Count { position, farthest: position };
+    }
+
+    /// An accepted cipher call of so many bytes.
+    pub fn cipher(&mut self, bytes: usize) {
+        self.position += bytes as u64;
+        if bytes != 0 {
+            self.farthest = self.farthest.max(self.position);
+        }
+    }
+
+    /// An accepted move.
+    pub fn move_by(&mut self, distance: i64) {
+        self.position = (self.position as i64 + distance) as u64;
+    }
+}
