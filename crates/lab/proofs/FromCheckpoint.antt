@@ -258,13 +258,12 @@ engine-streamed c p mark s (part ∷ parts) area l =
     let n = length part in
     let rest = length (flatten parts) in
     let sum : p + (n + rest) ≤ limit = rw (length-append part (flatten parts)) at l in
-    let (t, e) = engine-streamed c (p + n) (markAfter mark (p + n) n) (moved c s p (p + n)) parts (moved-area c s area p (p + n)) (omega arith) in
-    (
+    let (t, e) = engine-streamed c (p + n) (markAfter mark (p + n) n) (moved c s p (p + n)) parts (moved-area c s area p (p + n)) (omega arith) in (
       t,
       subst
-      (λ (m : ℕ). engineStreamed (engineAt (codeOf c) c p mark s) (part ∷ parts) ≡ engineAt (codeOf c) c (p + m) (markAfter mark (p + m) m) t)
-      (sym (length-append part (flatten parts)))
-      (rw (cipher-call-is c p mark s part (area .sized) (omega arith)) (e ∙ parts-end c p mark n rest t)),
+          (λ (m : ℕ). engineStreamed (engineAt (codeOf c) c p mark s) (part ∷ parts) ≡ engineAt (codeOf c) c (p + m) (markAfter mark (p + m) m) t)
+          (sym (length-append part (flatten parts)))
+          (rw (cipher-call-is c p mark s part (area .sized) (omega arith)) (e ∙ parts-end c p mark n rest t)),
     )
 
 spent-opened : (string area : List ℕ) (parts : List (List ℕ)) (f : Four) → Checkpoint string f → length area ≡ areaLength (f .cipher)

@@ -24,14 +24,14 @@ streamed e [] = []
 streamed e (part ∷ parts) =
     cipherCall (e .head) (e .area) part .value .bytes ++ streamed (cipherCall (e .head) (e .area) part .value .engine) parts
 
--- spent is accepted for a head, and gives this count
-abbrev pub Spends : Head → ℕ → Type 0
-Spends h n = spent h ≡ accepted (record { head = h; count = n })
-
--- the engine that they leave
+-- the engine that such parts leave
 unfoldable pub engineStreamed : Engine → List (List ℕ) → Engine
 engineStreamed e [] = e
 engineStreamed e (part ∷ parts) = engineStreamed (cipherCall (e .head) (e .area) part .value .engine) parts
+
+-- spent is accepted for a head, and gives this count
+abbrev pub Spends : Head → ℕ → Type 0
+Spends h n = spent h ≡ accepted (record { head = h; count = n })
 
 -- the engine of a four with a mark, and lent bytes that begin with the checkpoint of the four; later bytes stay
 abbrev pub checkpointPut : Four → (mark : ℕ) → List ℕ → Outcome Written
