@@ -30,8 +30,8 @@ fn g_q(x: u32, y: u32, z: u32) -> u32
 }
 
 // g of HC-256, where the table that is looked up begins at b.
-fn g_256(area: &[u32], b: usize, x: u32, y: u32) -> u32
-    requires { ⌜ (length (now area) ≡ 2048) × (b ≤ 1024) ⌝ }
+pub fn g_256(area: &[u32], b: usize, x: u32, y: u32) -> u32
+    requires { ⌜ b + 1024 ≤ length (now area) ⌝ }
     ensures { λ r. ⌜ r ≡ Functions.g256 (table (now (area .entry)) b) x y ⌝ }
 {
     word::sum(

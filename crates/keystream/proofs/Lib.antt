@@ -4,3 +4,6 @@ pub mod Ciphered
 pub mod Whole
 pub mod Keystream
 pub mod Words
+pub mod Runs
+pub mod Calls
+pub mod Numbered

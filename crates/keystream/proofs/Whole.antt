@@ -94,7 +94,7 @@ module _ (c : Cipher) (s bs : List ℕ) (p a n t w : ℕ) (ew : w ≡ wordAt c s
       ∙ key-from c s p (0 + k) (p / 4) (p % 4 + k) (omega arith) (h .0))
       (xored-none (keyFrom c s p) bs))
 
-  whole-words : (out : List ℕ) → Xored (keyFrom c s p) bs out a → Xored (keyFrom c s p) bs (forward (xorWord c s (stepsAt p) a) out 0 n) (a + 4 * n)
+  whole-words : (out : List ℕ) → Xored (keyFrom c s p) bs out a → Xored (keyFrom c s p) bs (forward (xorWord (step c) (output c) s (stepsAt p) a) out 0 n) (a + 4 * n)
   whole-words out v =
       xored-words (keyFrom c s p) bs out a n (λ k. output c (steps c s (stepsAt p) (k + 1)) (stepsAt p + k))
       (words-fit p (length bs) a n t ea en et)
@@ -122,7 +122,7 @@ module _ (c : Cipher) (s bs : List ℕ) (p a n t w : ℕ) (ew : w ≡ wordAt c s
       v)
 
   -- the call's bytes, part by part
-  whole-bytes : (b₁ b₂ b₃ : List ℕ) → b₁ ≡ xorPart 0 a w (p % 4) bs → b₂ ≡ forward (xorWord c s (stepsAt p) a) b₁ 0 n
+  whole-bytes : (b₁ b₂ b₃ : List ℕ) → b₁ ≡ xorPart 0 a w (p % 4) bs → b₂ ≡ forward (xorWord (step c) (output c) s (stepsAt p) a) b₁ 0 n
       → b₃ ≡ xorPart (a + 4 * n) t (output c (step c (steps c s (stepsAt p) n) (stepsAt p + n)) (stepsAt p + n)) 0 b₂ → b₃ ≡ ciphered c s p bs
   whole-bytes b₁ b₂ b₃ e₁ e₂ e₃ = e₃ ∙ rw (e₂, e₁) (all-done c s p bs _ (beginning-of-word _ (whole-words _ end-of-word)))
 
@@ -147,7 +147,7 @@ pub record Parts (c : Cipher) (s bs : List ℕ) (p w a i n t : ℕ) (b₁ s₂ b
   pub count : n ≡ (length b₁ - a) / 4
   pub rest : t ≡ (length b₁ - a) % 4
   pub words-tables : s₂ ≡ steps c s i n
-  pub words-bytes : b₂ ≡ forward (xorWord c s i a) b₁ 0 n
+  pub words-bytes : b₂ ≡ forward (xorWord (step c) (output c) s i a) b₁ 0 n
   pub words-sized : length b₂ ≡ length b₁
   pub begun-tables : s₃ ≡ steps c s₂ (i + n) (stepsAt t)
   pub begun-bytes : b₃ ≡ xorPart (length b₂ - t) t (output c (step c s₂ (i + n)) (i + n)) 0 b₂

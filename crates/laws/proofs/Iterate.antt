@@ -71,11 +71,14 @@ module _ {A : Type 0} where
       let o : suc i ≡ i + 1 = omega arith in
       rw (e, o, ← forward-add f s i 1 n, forward-one)
 
-  -- changes that are the same under other numbers
-  pub forward-same : (f g : A → ℕ → A) (s : A) (i m n : ℕ) → ((t : A) (k : ℕ) → f t (i + k) ≡ g t (m + k)) → forward f s i n ≡ forward g s m n
+  -- n changes that are the same under other numbers
+  pub forward-same-below : (f g : A → ℕ → A) (s : A) (i m n : ℕ) → ((t : A) (k : ℕ) → k < n → f t (i + k) ≡ g t (m + k)) → forward f s i n ≡ forward g s m n
   unfolding forward
-  forward-same f g s i m zero e = refl
-  forward-same f g s i m (suc n) e = rw (forward-same f g s i m n e) (e _ n)
+  forward-same-below f g s i m zero e = refl
+  forward-same-below f g s i m (suc n) e = rw (forward-same-below f g s i m n (λ t k l. e t k (omega arith))) (e _ n (omega arith))
+
+  pub forward-same : (f g : A → ℕ → A) (s : A) (i m n : ℕ) → ((t : A) (k : ℕ) → f t (i + k) ≡ g t (m + k)) → forward f s i n ≡ forward g s m n
+  forward-same f g s i m n e = forward-same-below f g s i m n (λ t k l. e t k)
 
   pub backward-same : (g : A → ℕ → A) (s : A) (i m n : ℕ) → ((t : A) (k : ℕ) → g t (i + k) ≡ g t (m + k)) → backward g s i n ≡ backward g s m n
   unfolding backward

@@ -1,22 +1,21 @@
 -- Where no index wraps, feedback, filter and A[j] of step k are read at places around k; and each step of a run is such a step. Assumes nothing.
-use mathlib.Core.Path.{_≡_, refl, sym, ap, _∙_}
+use mathlib.Core.Path.{_≡_, refl, _∙_}
 use mathlib.Core.Logic.{⊎-elim}
-use mathlib.Core.Bool.{Bool, true, false}
+use mathlib.Core.Bool.{Bool}
 use mathlib.Core.List.{List}
 use Prim.Native.Nat.{ℕ, _+_, _-_, _%_, _≤_, _<_}
 use native.Mathlib.Omega.{arith}
 use borrow.Author.Tests.{lt-ltb, le-ltb}
 use lib.ListN.{length, getD}
 use Rattle.laws.proofs.Lists.{below-or-not}
-use Rattle.word.specs.Word.{_⊕_}
 use Rattle.cipher.specs.declared.Cipher.{Cipher}
 use Rattle.cipher.specs.declared.Cipher.the-variants.{Hc128, Hc256}
 use Rattle.cipher.specs.Numbers.{tableLength, areaLength}
 use Rattle.functions.specs.ByCipher.{feedbackOf, hOf, filterOf}
 use Rattle.tables.specs.Area.{changesP, startA}
-use Rattle.tables.specs.Step.{feedback, filter, place, step, stepBack, output}
+use Rattle.tables.specs.Step.{feedback, filter, place, step, stepBack}
 use Rattle.tables.proofs.Places.{place-is}
-use Rattle.tables.proofs.Turns.{same-step, same-step-back, same-output}
+use Rattle.tables.proofs.Turns.{same-step, same-step-back}
 use Rattle.runs.specs.Run.{Run, At}
 
 -- A[j-m] stands m places before A[j], and A[j+1] one place after it
@@ -46,22 +45,6 @@ pub filter-at : (c : Cipher) {s : List ℕ} {p : Bool} (k : ℕ) → At c s p k 
 unfolding filterOf hOf filter
 filter-at Hc128 k a = rw (before Hc128 k 12 a (omega arith) (omega arith), a .half) refl
 filter-at Hc256 k a = rw (before Hc256 k 12 a (omega arith) (omega arith), a .half) refl
-
--- the output is worked out on the area t that the step leaves
-pub put-out : (c : Cipher) {s : List ℕ} {p : Bool} {k : ℕ} → At c s p k → (t : List ℕ) {h : ℕ} → h ≡ filter c t k → h ⊕ getD t k 0 ≡ output c t k
-unfolding output
-put-out c {k = k} a t f = rw (f, place-at c k a) refl
-
--- an area of the same length in its place
-pub at-later : {c : Cipher} {s t : List ℕ} {p : Bool} {k : ℕ} → At c s p k → length t ≡ length s → At c t p k
-at-later a e = record {
-  sized = e ∙ a .sized;
-  half = a .half;
-  not-first = a .not-first;
-  not-last = a .not-last;
-  above = a .above;
-  below = a .below;
-}
 
 -- step i + m of a run from step i on, where k is the place of A[j] at step i
 same-turn : (c : Cipher) (i n m : ℕ) {k : ℕ} → Run (tableLength c) i n → m < n → k ≡ place c i → changesP (tableLength c) i ≡ changesP (tableLength c) (k + m)
@@ -105,6 +88,3 @@ module _ (c : Cipher) (i : ℕ) {k : ℕ} (e : k ≡ place c i) (s : List ℕ) (
 
   pub step-back-at-place : {t : List ℕ} → t ≡ stepBack c s (k + m) → t ≡ stepBack c s (i + m)
   step-back-at-place f = f ∙ same-step-back c s _ _ (same-place-later c i m e)
-
-  pub output-at-place : {w : ℕ} → w ≡ output c s (k + m) → w ≡ output c s (i + m)
-  output-at-place f = f ∙ same-output c s _ _ (same-place-later c i m e)

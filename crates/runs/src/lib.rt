@@ -42,15 +42,6 @@ fn step(cipher: Cipher, area: &mut [u32], p: bool, k: usize)
     area[k] = with_feedback(cipher, false, area, p, k, next, area[k]);
 }
 
-// Step k, where p tells whether P changes; its output.
-pub fn word(cipher: Cipher, area: &mut [u32], p: bool, k: usize) -> u32
-    requires { ⌜ Run.At cipher (now area) p k ⌝ }
-    ensures { λ r. ⌜ (now (area .exit) ≡ Step.step cipher (now (area .entry)) k) × (r ≡ Step.output cipher (now (area .exit)) k) ⌝ }
-{
-    step(cipher, area, p, k);
-    filter(cipher, area, p, k) ^ area[k]
-}
-
 // Step k undone, where p tells whether P changed and `next` is A[j+1]; the word restored.
 fn step_back(cipher: Cipher, area: &mut [u32], p: bool, k: usize, next: u32) -> u32
     requires { ⌜ Run.At cipher (now area) p k × (next ≡ getD (now area) (k + 1) 0) ⌝ }

@@ -1,4 +1,5 @@
--- Remainders and the start of A by `&`, where the lengths are powers of two; and a table as a part of the area. Assumes nothing.
+-- Remainders, the five indices, which table changes and the start of A by `&`, where the lengths are powers of two; and a table as a part of the
+-- area. Assumes nothing.
 use mathlib.Core.Path.{_≡_, refl, sym, ap, ap₂, _∙_}
 use mathlib.Core.Bool.{Bool, true, false}
 use mathlib.Core.List.{List}
@@ -6,9 +7,9 @@ use mathlib.Core.Logic.{⊎-elim}
 use Prim.Native.Nat.{ℕ, _+_, _-_, _*_, _/_, _%_, _≤_, _<_}
 use native.Mathlib.Nat.{zero-add, mod-lt}
 use native.Mathlib.Omega.{arith}
-use borrow.Author.Tests.{lt-ltb, le-ltb}
+use borrow.Author.Tests.{lt-ltb, le-ltb, eq-eqb, ne-eqb}
 use lib.Bits.{bitAnd, and-mask, and-high}
-use lib.Dec.{ltb}
+use lib.Dec.{eqb, ltb}
 use lib.ListN.{length, getD, take, drop, length-drop}
 use lib.Seq.{take-all, getD-drop}
 use Rattle.laws.proofs.Lists.{below-or-not}
@@ -19,7 +20,7 @@ use Rattle.functions.specs.Functions.{table, startB}
 use Rattle.functions.specs.ByCipher.{hOf}
 use Rattle.word.specs.Word.{_⊕_}
 use Rattle.tables.specs.declared.Indices.{Indices}
-use Rattle.tables.specs.Area.{changesP, startA, indicesAt}
+use Rattle.tables.specs.Area.{changesP, startA, indicesAt, Within}
 use Rattle.tables.specs.Step.{place, filter, output}
 use Rattle.tables.proofs.Places.{table-size, place-is, place-lt}
 
@@ -30,6 +31,59 @@ area-and Hc256 i = and-mask i 11
 pub table-and : (c : Cipher) (i : ℕ) → bitAnd i (tableLength c - 1) ≡ i % tableLength c
 table-and Hc128 i = and-mask i 9
 table-and Hc256 i = and-mask i 10
+
+-- n below j modulo T
+back-and : (c : Cipher) (i n : ℕ) → n ≤ 12 → bitAnd (i % tableLength c + (1024 - n)) (tableLength c - 1) ≡ (i % tableLength c + (tableLength c - n)) % tableLength c
+back-and Hc128 i n l = and-mask (i % 512 + (1024 - n)) 9 ∙ omega arith
+back-and Hc256 i n l = and-mask (i % 1024 + (1024 - n)) 10 ∙ omega arith
+
+-- the five indices as the code has them, for tables of t words
+abbrev pub indicesAnd : ℕ → ℕ → Indices
+indicesAnd t i =
+    let j = bitAnd i (t - 1) in
+    record {
+      j = j;
+      minus3 = bitAnd (j + 1021) (t - 1);
+      minus10 = bitAnd (j + 1014) (t - 1);
+      plus1 = bitAnd (j + 1) (t - 1);
+      minus12 = bitAnd (j + 1012) (t - 1);
+    }
+
+pub indices-and : (c : Cipher) (i : ℕ) → indicesAnd (tableLength c) i ≡ indicesAt (tableLength c) i
+indices-and c i =
+    rw (
+      table-and c i,
+      back-and c i 3 (omega arith),
+      back-and c i 10 (omega arith),
+      back-and c i 12 (omega arith),
+      table-and c (i % tableLength c + 1),
+    )
+    refl
+
+pub below-and : (c : Cipher) (i : ℕ) {t : ℕ} → t ≡ tableLength c → bitAnd i (t - 1) < 1024
+below-and c i e = rw (e, table-and c i) (omega (arith, mod-lt i {m = tableLength c} (omega (arith, table-size c .0)), table-size c .1))
+
+pub indices-within : (c : Cipher) (i : ℕ) → Within (tableLength c) (indicesAt (tableLength c) i)
+indices-within c i =
+    let some : 0 < tableLength c = omega (arith, table-size c .0) in
+    record { j-in = mod-lt _ some; minus3-in = mod-lt _ some; minus10-in = mod-lt _ some; plus1-in = mod-lt _ some; minus12-in = mod-lt _ some }
+
+-- P changes where the bit of T in i is 0
+pub changes-and : (c : Cipher) (i : ℕ) → eqb (bitAnd i (tableLength c)) 0 ≡ changesP (tableLength c) i
+changes-and Hc128 i =
+    let e : bitAnd i 512 ≡ i / 512 % 2 * 512 = and-high i 1 9 in
+    rw e
+    (⊎-elim
+    (λ l. rw (lt-ltb (i % 1024) 512 l) (eq-eqb (i / 512 % 2 * 512) 0 (omega arith)))
+    (λ l. rw (le-ltb (i % 1024) 512 l) (let b : i / 512 % 2 ≡ 1 = omega arith in ne-eqb (i / 512 % 2 * 512) 0 (λ e. omega arith)))
+    (below-or-not (i % 1024) 512))
+changes-and Hc256 i =
+    let e : bitAnd i 1024 ≡ i / 1024 % 2 * 1024 = and-high i 1 10 in
+    rw e
+    (⊎-elim
+    (λ l. rw (lt-ltb (i % 2048) 1024 l) (eq-eqb (i / 1024 % 2 * 1024) 0 (omega arith)))
+    (λ l. rw (le-ltb (i % 2048) 1024 l) (let b : i / 1024 % 2 ≡ 1 = omega arith in ne-eqb (i / 1024 % 2 * 1024) 0 (λ e. omega arith)))
+    (below-or-not (i % 2048) 1024))
 
 -- of a place k in the area, the start of the table that it is in
 half-128 : (k : ℕ) → k < 1024 → k / 512 % 2 * 512 ≡ startA 512 (ltb k 512)
@@ -55,7 +109,7 @@ part-table s b = λ i k. at k i
     at k = rw (take-all (length s - b) (drop b s) (omega (arith, length-drop b s)), zero-add k) (getD-drop b s k 0)
 
 -- where the table that is looked up begins
-start-b : (T : ℕ) (p : Bool) → T - startA T p ≡ startB T p
+pub start-b : (T : ℕ) (p : Bool) → T - startA T p ≡ startB T p
 start-b T true = omega arith
 start-b T false = omega arith
 

@@ -6,7 +6,7 @@ use native.Mathlib.Omega.{arith}
 use Rattle.cipher.specs.declared.Cipher.{Cipher}
 use Rattle.cipher.specs.declared.Cipher.the-variants.{Hc128, Hc256}
 use Rattle.cipher.specs.Numbers.{tableLength, areaLength}
-use Rattle.tables.specs.Step.{feedback, filter, place, step, stepBack, output}
+use Rattle.tables.specs.Step.{feedback, place, step, stepBack}
 
 same-index : (c : Cipher) (i m : ℕ) → i % areaLength c ≡ m % areaLength c → i % tableLength c ≡ m % tableLength c
 same-index Hc128 i m e = omega arith
@@ -20,11 +20,6 @@ unfolding feedback
 same-feedback Hc128 s i m e = rw (same-index Hc128 i m e, e) refl
 same-feedback Hc256 s i m e = rw (same-index Hc256 i m e, e) refl
 
-same-filter : (c : Cipher) (s : List ℕ) (i m : ℕ) → i % areaLength c ≡ m % areaLength c → filter c s i ≡ filter c s m
-unfolding filter
-same-filter Hc128 s i m e = rw (same-index Hc128 i m e, e) refl
-same-filter Hc256 s i m e = rw (same-index Hc256 i m e, e) refl
-
 module _ (c : Cipher) (s : List ℕ) (i m : ℕ) (e : i % areaLength c ≡ m % areaLength c) where
   pub same-step : step c s i ≡ step c s m
   unfolding step
@@ -33,7 +28,3 @@ module _ (c : Cipher) (s : List ℕ) (i m : ℕ) (e : i % areaLength c ≡ m % a
   pub same-step-back : stepBack c s i ≡ stepBack c s m
   unfolding stepBack
   same-step-back = rw (same-feedback c s i m e, same-place c i m e) refl
-
-  pub same-output : output c s i ≡ output c s m
-  unfolding output
-  same-output = rw (same-filter c s i m e, same-place c i m e) refl

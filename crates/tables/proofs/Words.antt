@@ -14,14 +14,14 @@ use Rattle.tables.specs.Area.{changesP, startA, indicesAt}
 use Rattle.tables.specs.Step.{feedback, filter, place, step, stepBack}
 
 pub feedback-read : (c : Cipher) (s : List ℕ) (i : ℕ) {t a : ℕ} {p : Bool} {x : Indices}
-    → t ≡ tableLength c → p ≡ changesP (tableLength c) i → a ≡ startA t p → x ≡ indicesAt t i
+    → t ≡ tableLength c → p ≡ changesP (tableLength c) i → a ≡ startA t p → x ≡ indicesAt (tableLength c) i
     → feedbackOf c p s (getD s (a + x .minus3) 0) (getD s (a + x .minus10) 0) (getD s (a + x .plus1) 0) ≡ feedback c s i
 unfolding feedbackOf feedback
 feedback-read Hc128 s i e f g h = rw (h, g, f, e) refl
 feedback-read Hc256 s i e f g h = rw (h, g, f, e) refl
 
 pub filter-read : (c : Cipher) (s : List ℕ) (i : ℕ) {t a : ℕ} {p : Bool} {x : Indices}
-    → t ≡ tableLength c → p ≡ changesP (tableLength c) i → a ≡ startA t p → x ≡ indicesAt t i
+    → t ≡ tableLength c → p ≡ changesP (tableLength c) i → a ≡ startA t p → x ≡ indicesAt (tableLength c) i
     → filterOf c p s (getD s (a + x .minus12) 0) ≡ filter c s i
 unfolding filterOf hOf filter
 filter-read Hc128 s i e f g h = rw (h, g, f, e) refl

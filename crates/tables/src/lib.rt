@@ -18,30 +18,31 @@ pub struct Indices {
     pub minus12: usize,
 }
 
-// The indices of step i, for tables of t words.
-pub fn indices_at(t: usize, i: usize) -> Indices
-    requires { ⌜ (12 ≤ t) × (t ≤ 1024) ⌝ }
-    ensures { λ r. ⌜ (r ≡ Area.indicesAt t i) × Within t r ⌝ }
+// The indices of step i. T is a power of two, so that & takes the remainder; 1,021 is 1,024 - 3, so that adding it goes 3 back modulo 512 and modulo
+// 1,024, and so for the others.
+pub fn indices_at(cipher: Cipher, i: usize) -> Indices
+    ensures { λ r. ⌜ (r ≡ Area.indicesAt (tableLength cipher) i) × Within (tableLength cipher) r ⌝ }
 {
-    let j = i % t;
+    let below = cipher::table_words(cipher) - 1;
+    let j = i & below;
     Indices {
         j: j,
-        minus3: (j + (t - 3)) % t,
-        minus10: (j + (t - 10)) % t,
-        plus1: (j + 1) % t,
-        minus12: (j + (t - 12)) % t,
+        minus3: (j + 1021) & below,
+        minus10: (j + 1014) & below,
+        plus1: (j + 1) & below,
+        minus12: (j + 1012) & below,
     }
 }
 
-// Whether P changes at step i.
+// Whether P changes at step i: T is a power of two, so that its bit of i tells.
 pub fn changes_p(cipher: Cipher, i: usize) -> bool
     ensures { λ r. ⌜ r ≡ Area.changesP (tableLength cipher) i ⌝ }
 {
-    i % cipher::area_words(cipher) < cipher::table_words(cipher)
+    i & cipher::table_words(cipher) == 0
 }
 
 // Where the table that changes begins, for tables of t words, where p tells whether P changes.
-fn start_a(t: usize, p: bool) -> usize
+pub fn start_a(t: usize, p: bool) -> usize
     ensures { λ r. ⌜ (r ≡ Area.startA t p) × (r ≤ t) ⌝ }
 {
     if p { 0 } else { t }
@@ -62,7 +63,7 @@ pub fn with_feedback(cipher: Cipher, back: bool, area: &[u32], i: usize, w: u32)
     let t = cipher::table_words(cipher);
     let p = changes_p(cipher, i);
     let a = start_a(t, p);
-    let at = indices_at(t, i);
+    let at = indices_at(cipher, i);
     let minus3 = a + at.minus3;
     let minus10 = a + at.minus10;
     let plus1 = a + at.plus1;
@@ -86,7 +87,7 @@ pub fn filter(cipher: Cipher, area: &[u32], i: usize) -> u32
     let t = cipher::table_words(cipher);
     let p = changes_p(cipher, i);
     let a = start_a(t, p);
-    let at = indices_at(t, i);
+    let at = indices_at(cipher, i);
     let minus12 = a + at.minus12;
     functions::filter(cipher, area, p, area[minus12])
 }
@@ -109,26 +110,8 @@ pub fn step_back(cipher: Cipher, area: &mut [u32], i: usize)
     area[k] = with_feedback(cipher, true, area, i, area[k]);
 }
 
-// The output word of step i, from the area after it.
-pub fn output(cipher: Cipher, area: &[u32], i: usize) -> u32
-    requires { ⌜ length (now area) ≡ areaLength cipher ⌝ }
-    ensures { λ r. ⌜ r ≡ Step.output cipher (now (area .entry)) i ⌝ }
-{
-    let k = place(cipher, i);
-    filter(cipher, area, i) ^ area[k]
-}
-
-// Step i; its output.
-pub fn word(cipher: Cipher, area: &mut [u32], i: usize) -> u32
-    requires { ⌜ length (now area) ≡ areaLength cipher ⌝ }
-    ensures { λ r. ⌜ (now (area .exit) ≡ Step.step cipher (now (area .entry)) i) × (r ≡ Step.output cipher (now (area .exit)) i) ⌝ }
-{
-    step(cipher, area, i);
-    output(cipher, area, i)
-}
-
-// The output word of step i, from the area after it, as `output` gives it, in fewer operations: it is worked out in each call that compares the head's
-// word. T and 2T are powers of two, so that & takes the remainders; 1,012 is 1,024 - 12, so that adding it goes 12 back modulo 512 and modulo 1,024.
+// The output word of step i, from the area after it, in few operations: it is worked out in each call that compares the head's word. T and 2T are
+// powers of two, so that & takes the remainders; 1,012 is 1,024 - 12, so that adding it goes 12 back modulo 512 and modulo 1,024.
 pub fn output_again(cipher: Cipher, area: &[u32], i: usize) -> u32
     requires { ⌜ length (now area) ≡ areaLength cipher ⌝ }
     ensures { λ r. ⌜ r ≡ Step.output cipher (now (area .entry)) i ⌝ }

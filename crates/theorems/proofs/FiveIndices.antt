@@ -1,11 +1,11 @@
 -- The five indices of a step are those of document 01. Assumes nothing.
 use mathlib.Core.Path.{_≡_, refl}
-use Prim.Native.Nat.{ℕ, _+_, _-_, _%_, _≤_, _<_}
+use Prim.Native.Nat.{ℕ, _+_, _-_, _%_, _≤_}
 use native.Mathlib.Omega.{arith}
 use Rattle.cipher.specs.declared.Cipher.{Cipher}
 use Rattle.cipher.specs.declared.Cipher.the-variants.{Hc128, Hc256}
 use Rattle.cipher.specs.Numbers.{tableLength}
-use Rattle.tables.specs.Area.{indicesAt, Within}
+use Rattle.tables.proofs.Masks.{indices-within}
 use Rattle.theorems.specs.FiveIndices.{FiveIndices}
 
 -- n below j modulo T, and n on again
@@ -17,13 +17,9 @@ one-on : (c : Cipher) (i : ℕ) → (i % tableLength c + 1) % tableLength c ≡ 
 one-on Hc128 i = omega arith
 one-on Hc256 i = omega arith
 
-inside : (c : Cipher) (i : ℕ) → Within (tableLength c) (indicesAt (tableLength c) i)
-inside Hc128 i = record { j-in = omega arith; minus3-in = omega arith; minus10-in = omega arith; plus1-in = omega arith; minus12-in = omega arith }
-inside Hc256 i = record { j-in = omega arith; minus3-in = omega arith; minus10-in = omega arith; plus1-in = omega arith; minus12-in = omega arith }
-
 pub five-indices : FiveIndices
 five-indices = record {
-  inside = inside;
+  inside = indices-within;
   j = λ c i. refl;
   minus3 = λ c i. back-on c i 3 (omega arith);
   minus10 = λ c i. back-on c i 10 (omega arith);

@@ -7,10 +7,10 @@ use Rattle.functions.proofs.with_feedback.Statement.{statement}
 use Rattle.functions.proofs.with_feedback.Tie as tie
 
 g-256-requires : tie.Need-g-256-requires
-g-256-requires c κs = (words-256 (c .before .enum-told2 .given .1) (c .before .before .before .before .pre), omega arith)
+g-256-requires c κs = omega (arith, words-256 (c .before .enum-told2 .given .1) (c .before .before .before .before .pre))
 
 g-256-requires-2 : tie.Need-g-256-requires-2
-g-256-requires-2 c κs = (words-256 (c .before .enum-told2 .given .1) (c .before .before .before .before .pre), omega arith)
+g-256-requires-2 c κs = omega (arith, words-256 (c .before .enum-told2 .given .1) (c .before .before .before .before .pre))
 
 returns : tie.Need-returns
 returns c =

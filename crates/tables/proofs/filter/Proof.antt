@@ -2,13 +2,9 @@
 use mathlib.Core.Path.{_∙_}
 use borrow.Author.Needs.{needs}
 use denote.Ref.{now}
-use Rattle.tables.proofs.Places.{table-size}
 use Rattle.tables.proofs.Words.{filter-read}
 use Rattle.tables.proofs.filter.Statement.{statement}
 use Rattle.tables.proofs.filter.Tie as tie
-
-indices-at-requires : tie.Need-indices-at-requires
-indices-at-requires c κs = rw (c .before .before .table-words .ensures .0) (table-size (c .before .before .before .before .args .cipher))
 
 returns : tie.Need-returns
 returns c =
@@ -20,5 +16,5 @@ returns c =
 
 pub filter-spec : {M : Type 1} → statement M
 filter-spec =
-    let a₁ = tie.spec (λ c κs. search needs) (λ c κs. search needs) (λ c κs. search needs) indices-at-requires in
+    let a₁ = tie.spec (λ c κs. search needs) (λ c κs. search needs) (λ c κs. search needs) (λ c κs. search needs) in
     tie.close (a₁ (λ c. search needs) (λ c. search needs) (λ c. search needs) (λ c κs. search needs) returns)

@@ -3,13 +3,9 @@ use mathlib.Core.Path.{ap, _∙_}
 use borrow.Author.Needs.{needs}
 use denote.Ref.{now}
 use Rattle.functions.specs.ByCipher.{put}
-use Rattle.tables.proofs.Places.{table-size}
 use Rattle.tables.proofs.Words.{feedback-read}
 use Rattle.tables.proofs.with_feedback.Statement.{statement}
 use Rattle.tables.proofs.with_feedback.Tie as tie
-
-indices-at-requires : tie.Need-indices-at-requires
-indices-at-requires c κs = rw (c .before .before .table-words .ensures .0) (table-size (c .before .before .before .before .args .cipher))
 
 returns : tie.Need-returns
 returns c =
@@ -21,6 +17,6 @@ returns c =
 
 pub with-feedback-spec : {M : Type 1} → statement M
 with-feedback-spec =
-    let a₁ = tie.spec (λ c κs. search needs) (λ c κs. search needs) (λ c κs. search needs) indices-at-requires in
+    let a₁ = tie.spec (λ c κs. search needs) (λ c κs. search needs) (λ c κs. search needs) (λ c κs. search needs) in
     let a₂ = a₁ (λ c. search needs) (λ c. search needs) (λ c. search needs) (λ c. search needs) (λ c. search needs) (λ c. search needs) in
     tie.close (a₂ (λ c. search needs) (λ c. search needs) (λ c. search needs) (λ c κs. search needs) returns)
