@@ -13,6 +13,7 @@ const struct row_about about[ROWS] = {
     [BULK_16_MIB] = { "bulk, 16 MiB buffer", MIB_PER_SECOND, 4 },
     [CALL_1] = { "call of 1 byte", NANOSECONDS, 10 },
     [CALL_3] = { "call of 3 bytes", NANOSECONDS, 10 },
+    [CALL_12] = { "call of 12 bytes", NANOSECONDS, 10 },
     [CALL_16] = { "call of 16 bytes", NANOSECONDS, 10 },
     [CALL_64] = { "call of 64 bytes", NANOSECONDS, 10 },
     [SET_UP] = { "set-up", MICROSECONDS, 20 },
@@ -57,6 +58,7 @@ static size_t call_bytes(enum row row)
     switch (row) {
     case CALL_1: return 1;
     case CALL_3: return 3;
+    case CALL_12: return 12;
     case CALL_16: return 16;
     case CALL_64: return 64;
     default: return bulk_bytes(row);

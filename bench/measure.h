@@ -9,6 +9,7 @@ enum row {
     BULK_16_MIB,
     CALL_1,
     CALL_3,
+    CALL_12,
     CALL_16,
     CALL_64,
     SET_UP,

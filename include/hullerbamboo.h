@@ -112,18 +112,18 @@ struct hc_count {
 };
 
 /* Set up: fills the area from a key and an IV, and the head becomes the given code and word 0 at position 0 with mark 0, whatever it was.
- * Refusals: 1, 2, 3, 4. Stack: 352 bytes. */
+ * Refusals: 1, 2, 3, 4. Stack: 336 bytes. */
 uint64_t hc_set_up(struct hc_head *head, uint32_t code, const uint8_t *key, size_t key_bytes, const uint8_t *iv, size_t iv_bytes, uint32_t *area,
                    size_t area_words);
 
 /* Cipher: replaces each lent byte by its exclusive or with the keystream byte, and advances by byte_count. The same call enciphers and deciphers.
  * Any number of bytes may be given at a time, also 0, which changes nothing. A call of one byte or more makes the mark the larger of the mark and the
  * position at its end.
- * Refusals: 1, 4, 5, 13, 6. Stack: 200 bytes. */
+ * Refusals: 1, 4, 5, 13, 6. Stack: 208 bytes. */
 uint64_t hc_cipher(struct hc_head *head, uint32_t *area, size_t area_words, uint8_t *bytes, size_t byte_count);
 
 /* Move: takes head and tables forward, or back where distance is negative, by a number of bytes; the mark stays. The time grows with the distance.
- * Refusals: 1, 4, 5, 13, 7, 6. Stack: 144 bytes. */
+ * Refusals: 1, 4, 5, 13, 7, 6. Stack: 128 bytes. */
 uint64_t hc_move(struct hc_head *head, uint32_t *area, size_t area_words, int64_t distance);
 
 /* Checkpoint length: how many bytes the checkpoint of a cipher has at a position: 1, plus the bytes of the position as a number (1 below 128, 2 below
@@ -138,7 +138,7 @@ struct hc_length hc_checkpoint_length(uint32_t code, uint64_t position);
 struct hc_length hc_write(struct hc_head *head, const uint32_t *area, size_t area_words, uint8_t *lent, size_t lent_bytes);
 
 /* Recover: fills the buffers with the key and the IV from which the tables came. Area and head stay. It takes every step back to set up.
- * Refusals: 1, 4, 5, 13, 2, 3, 12. Stack: 8,688 bytes. */
+ * Refusals: 1, 4, 5, 13, 2, 3, 12. Stack: 8,672 bytes. */
 uint64_t hc_recover(struct hc_head *head, const uint32_t *area, size_t area_words, uint8_t *key, size_t key_bytes, uint8_t *iv, size_t iv_bytes);
 
 /* Load: fills area and head from a checkpoint, whatever the head was, and returns its key and IV. The mark becomes the loaded position. The area must
