@@ -1,4 +1,5 @@
--- The feedback and h by cipher and by whether P changes, as the code has them. Only contracts below the engine cite it.
+-- The feedback and h by cipher and by whether P changes, as the code has them. Contracts below the engine cite it, and the steps that are taken with
+-- given indices, `carried/specs/Steps.antt`.
 use mathlib.Core.Bool.{Bool, true, false}
 use mathlib.Core.List.{List}
 use Prim.Native.Nat.{ℕ}
