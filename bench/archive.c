@@ -81,4 +81,26 @@ static int load(void *state, const uint8_t *checkpoint, size_t length, size_t ti
     return 0;
 }
 
-const struct implementation COLUMN = { TITLE, create, set_up, cipher, 1, move, recover, write_checkpoint, load };
+/* An earlier archive may have no volumes. */
+#ifdef HC_VOLUME_ENTRIES
+static size_t write_volume(const uint32_t *entries, size_t numbers, uint8_t *lent, size_t lent_bytes, size_t times)
+{
+    struct hc_length written = { 0, 0 };
+    for (size_t i = 0; i < times; i++)
+        written = hc_write_volume(entries, numbers, lent, lent_bytes);
+    return written.length;
+}
+
+static int64_t read_volume(const uint8_t *volume, size_t volume_bytes, uint32_t *entries, size_t numbers, size_t times)
+{
+    struct hc_count read = { 0, 0 };
+    for (size_t i = 0; i < times; i++)
+        read = hc_read_volume(volume, volume_bytes, entries, numbers);
+    return read.refusal == HC_OK ? (int64_t)read.count : -1;
+}
+#else
+#define write_volume NULL
+#define read_volume NULL
+#endif
+
+const struct implementation COLUMN = { TITLE, create, set_up, cipher, 1, move, recover, write_checkpoint, load, write_volume, read_volume };

@@ -17,6 +17,12 @@ static void stop(const struct implementation *it, int code, const char *what)
     exit(1);
 }
 
+static void stop_volume(const struct implementation *it, const char *what)
+{
+    printf("%s differs in %s; nothing was timed.\n", it->title, what);
+    exit(1);
+}
+
 /* The keystream in calls of n bytes, the last bytes that n does not divide left 0. */
 static void keystream(const struct implementation *it, int code, size_t n, uint8_t *bytes)
 {
@@ -75,6 +81,23 @@ static void check_checkpoint(const struct implementation *const *all, size_t cou
     }
 }
 
+static void check_volume(const struct implementation *const *all, size_t count)
+{
+    static const uint32_t entries[] = { 0, 0, 0, 1, 127, 128, 127, 8, 128, 16383, 128, 2, 1440, 16384, 10000, 3, 60, 100000, 525, 4 };
+    enum { NUMBERS = sizeof entries / sizeof *entries };
+    uint32_t list[NUMBERS];
+    for (size_t k = 0; k < count; k++) {
+        if (all[k]->write_volume == NULL)
+            continue;
+        size_t length = all[k]->write_volume(entries, NUMBERS, found, STREAM, 1);
+        if (length != 32 || (k != 0 && memcmp(expected, found, length) != 0))
+            stop_volume(all[k], "the written volume");
+        memcpy(expected, found, length);
+        if (all[k]->read_volume(found, length, list, NUMBERS, 1) != NUMBERS / 4 || memcmp(list, entries, sizeof entries) != 0)
+            stop_volume(all[k], "the entries of a volume");
+    }
+}
+
 void check_all_agree(const struct implementation *const *all, size_t count)
 {
     for (size_t i = 0; i < 32; i++) {
@@ -85,4 +108,5 @@ void check_all_agree(const struct implementation *const *all, size_t count)
         check_keystream(all, count, code);
         check_checkpoint(all, count, code);
     }
+    check_volume(all, count);
 }

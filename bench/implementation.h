@@ -7,6 +7,8 @@
 
 #define LIMIT 67108864
 #define LONGEST_CHECKPOINT 8197
+#define VOLUME_ENTRIES 2000
+#define LONGEST_VOLUME 16002
 
 struct implementation {
     const char *title;
@@ -25,6 +27,10 @@ struct implementation {
     size_t (*write)(void *state, uint8_t *checkpoint, size_t times);
     /* Loads the checkpoint, so many times in a row; returns 0, or another number where it is refused. */
     int (*load)(void *state, const uint8_t *checkpoint, size_t length, size_t times);
+    /* Writes the volume of entries, four numbers each, so many times in a row, and returns its length; 0 where it is refused. */
+    size_t (*write_volume)(const uint32_t *entries, size_t numbers, uint8_t *lent, size_t lent_bytes, size_t times);
+    /* Reads a volume, so many times in a row, and returns the count of its entries; -1 where it is refused. */
+    int64_t (*read_volume)(const uint8_t *volume, size_t volume_bytes, uint32_t *entries, size_t numbers, size_t times);
 };
 
 #endif

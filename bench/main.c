@@ -77,9 +77,9 @@ static void print_table(void)
         printf("--:|");
     printf("\n");
     for (int row = 0; row < ROWS; row++)
-        for (int cipher = 0; cipher < 2; cipher++) {
+        for (int cipher = 0; cipher < ciphers_of((enum row)row); cipher++) {
             const double *s = seconds[row][cipher];
-            printf("| %-28s | %s | ", about[row].title, cipher_titles[cipher]);
+            printf("| %-28s | %s | ", about[row].title, ciphers_of((enum row)row) == 1 ? "-     " : cipher_titles[cipher]);
             print_figure((enum row)row, s[ARCHIVE]);
             printf(" |");
             for (int c = 1; c < shown(); c++)
@@ -91,9 +91,9 @@ static void print_table(void)
         }
 }
 
-static void print_goal(const char *goal, int cipher, double number, int met)
+static void print_goal(const char *goal, const char *cipher, double number, int met)
 {
-    printf("| %-66s | %s | %8.3f | %-6s |\n", goal, cipher_titles[cipher], number, met ? "met" : "behind");
+    printf("| %-66s | %s | %8.3f | %-6s |\n", goal, cipher, number, met ? "met" : "behind");
 }
 
 /* The column with the least time among those from first to last. */
@@ -117,7 +117,7 @@ static void print_bulk_goal(enum row row, int cipher, const char *size)
     char goal[96];
     double number = against_fastest(row, cipher, PLAIN_GCC, CRYPTOPP);
     snprintf(goal, sizeof goal, "bulk, %s: time / fastest other (%s), at most 1", size, titles[fastest(row, cipher, PLAIN_GCC, CRYPTOPP)]);
-    print_goal(goal, cipher, number, number < 1.005);
+    print_goal(goal, cipher_titles[cipher], number, number < 1.005);
 }
 
 static void print_goals(void)
@@ -128,13 +128,16 @@ static void print_goals(void)
         double call = seconds[CALL_3][cipher][ARCHIVE] / seconds[SET_UP][cipher][ARCHIVE];
         print_bulk_goal(BULK_64_KIB, cipher, "64 KiB");
         print_bulk_goal(BULK_16_MIB, cipher, "16 MiB");
-        print_goal("set-up: time / faster plain C, at most 2", cipher, set_up, set_up <= 2);
+        print_goal("set-up: time / faster plain C, at most 2", cipher_titles[cipher], set_up, set_up <= 2);
         if (columns[CRYPTOPP]) {
             double against = against_fastest(SET_UP, cipher, CRYPTOPP, CRYPTOPP);
-            print_goal("set-up: time / Crypto++, at most 1", cipher, against, against < 1.005);
+            print_goal("set-up: time / Crypto++, at most 1", cipher_titles[cipher], against, against < 1.005);
         }
-        print_goal("call of 3 bytes: time / set-up, below 0.05", cipher, call, call < 0.05);
+        print_goal("call of 3 bytes: time / set-up, below 0.05", cipher_titles[cipher], call, call < 0.05);
     }
+    double writing = against_fastest(WRITE_VOLUME, 0, PLAIN_GCC, PLAIN_CLANG), reading = against_fastest(READ_VOLUME, 0, PLAIN_GCC, PLAIN_CLANG);
+    print_goal("write volume: time / faster plain C, at most 2", "-     ", writing, writing <= 2);
+    print_goal("read volume: time / faster plain C, at most 2", "-     ", reading, reading <= 2);
 }
 
 /* Its argument is the number of rounds. */

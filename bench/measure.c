@@ -23,6 +23,8 @@ const struct row_about about[ROWS] = {
     [LOAD_LIMIT] = { "load at the limit", MILLISECONDS, 1 },
     [BACK] = { "move back, the limit to 0", MILLISECONDS, 2 },
     [LOAD_SMALL] = { "load at position 1,001", MICROSECONDS, 20 },
+    [WRITE_VOLUME] = { "write volume, 2,000 entries", MICROSECONDS, 20 },
+    [READ_VOLUME] = { "read volume, 2,000 entries", MICROSECONDS, 20 },
 };
 
 double seconds[ROWS][2][MOST_COLUMNS];
@@ -38,6 +40,8 @@ static struct engine engines[2][MOST_COLUMNS];
 static uint8_t key[32] = { 1, 2, 3 }, iv[32] = { 4, 5, 6 };
 static uint8_t buffer[16777216];
 static uint8_t checkpoint[LONGEST_CHECKPOINT];
+static uint32_t entries[4 * VOLUME_ENTRIES], entries_read[4 * VOLUME_ENTRIES];
+static uint8_t volume[LONGEST_VOLUME];
 
 /* The processor time of this process, which other work on the machine does not add to. */
 static double now(void)
@@ -45,6 +49,11 @@ static double now(void)
     struct timespec t;
     clock_gettime(CLOCK_PROCESS_CPUTIME_ID, &t);
     return (double)t.tv_sec + 1e-9 * (double)t.tv_nsec;
+}
+
+int ciphers_of(enum row row)
+{
+    return row == WRITE_VOLUME || row == READ_VOLUME ? 1 : 2;
 }
 
 size_t bulk_bytes(enum row row)
@@ -77,6 +86,8 @@ static int has(const struct implementation *it, enum row row)
     case WRITE: return it->write != NULL;
     case LOAD_LIMIT:
     case LOAD_SMALL: return it->load != NULL;
+    case WRITE_VOLUME: return it->write_volume != NULL;
+    case READ_VOLUME: return it->read_volume != NULL;
     default: return call_bytes(row) >= it->least_call;
     }
 }
@@ -152,6 +163,37 @@ static double time_load(struct engine *e, int64_t p, size_t times)
     return (now() - start) / (double)times;
 }
 
+/* The entries have random numbers over their whole ranges, the same in every run. */
+static void fill_entries(void)
+{
+    static const uint32_t least[4] = { 0, 0, 0, 1 }, most[4] = { 1440, 100000, 10000, 8 };
+    uint32_t x = 12345;
+    for (size_t i = 0; i < 4 * VOLUME_ENTRIES; i++) {
+        x ^= x << 13;
+        x ^= x >> 17;
+        x ^= x << 5;
+        entries[i] = least[i % 4] + x % (most[i % 4] - least[i % 4] + 1);
+    }
+}
+
+static double time_write_volume(const struct implementation *it)
+{
+    size_t times = 16;
+    double start = now();
+    if (it->write_volume(entries, 4 * VOLUME_ENTRIES, volume, sizeof volume, times) == 0)
+        abort();
+    return (now() - start) / (double)times;
+}
+
+static double time_read_volume(const struct implementation *it)
+{
+    size_t times = 16, length = it->write_volume(entries, 4 * VOLUME_ENTRIES, volume, sizeof volume, 1);
+    double start = now();
+    if (it->read_volume(volume, length, entries_read, 4 * VOLUME_ENTRIES, times) != VOLUME_ENTRIES)
+        abort();
+    return (now() - start) / (double)times;
+}
+
 static double time_row(struct engine *e, enum row row)
 {
     switch (row) {
@@ -162,6 +204,8 @@ static double time_row(struct engine *e, enum row row)
     case LOAD_LIMIT: return time_load(e, LIMIT, 1);
     case BACK: return time_move(e, LIMIT, 0);
     case LOAD_SMALL: return time_load(e, SMALL_POSITION, 16);
+    case WRITE_VOLUME: return time_write_volume(e->it);
+    case READ_VOLUME: return time_read_volume(e->it);
     default: return time_cipher(e, call_bytes(row));
     }
 }
@@ -196,10 +240,11 @@ static void create_engines(const struct implementation *const *columns, size_t c
 void measure_all(const struct implementation *const *columns, size_t count, int rounds)
 {
     create_engines(columns, count);
+    fill_entries();
     for (int round = 0; round < rounds; round++) {
         fprintf(stderr, "round %d of %d\n", round + 1, rounds);
         for (int row = 0; row < ROWS; row++)
-            for (int cipher = 0; cipher < 2; cipher++)
+            for (int cipher = 0; cipher < ciphers_of((enum row)row); cipher++)
                 for (int turn = 0; turn < about[row].turns; turn++)
                     measure_turn((enum row)row, cipher, count, (size_t)(round + turn));
     }

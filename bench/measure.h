@@ -19,6 +19,8 @@ enum row {
     WRITE,
     LOAD_SMALL,
     LOAD_LIMIT,
+    WRITE_VOLUME,
+    READ_VOLUME,
     ROWS
 };
 
@@ -38,8 +40,11 @@ extern const struct row_about about[ROWS];
 /* The least time in seconds of one call, or of one buffer in the bulk rows; 0 where the implementation lacks the operation. */
 extern double seconds[ROWS][2][MOST_COLUMNS];
 
-/* Fills seconds for all rows and both ciphers, in so many rounds; a null pointer stands for an implementation that is not installed. */
+/* Fills seconds for all rows and their ciphers, in so many rounds; a null pointer stands for an implementation that is not installed. */
 void measure_all(const struct implementation *const *columns, size_t count, int rounds);
+
+/* How many ciphers a row has: volumes are the same for both. */
+int ciphers_of(enum row row);
 
 /* The bytes of one buffer in a bulk row. */
 size_t bulk_bytes(enum row row);

@@ -1,6 +1,7 @@
 /* The plain C as the benchmark calls it; COLUMN and TITLE tell apart the compilers that it is compiled with. */
 #include "implementation.h"
 #include "plain.h"
+#include "plain_volume.h"
 
 #include <stdlib.h>
 
@@ -58,4 +59,20 @@ static int load(void *state, const uint8_t *checkpoint, size_t length, size_t ti
     return 0;
 }
 
-const struct implementation COLUMN = { TITLE, create, set_up, cipher, 1, move, recover, write_checkpoint, load };
+static size_t write_volume(const uint32_t *entries, size_t numbers, uint8_t *lent, size_t lent_bytes, size_t times)
+{
+    struct plain_answer written = { 0, 0 };
+    for (size_t i = 0; i < times; i++)
+        written = plain_write_volume(entries, numbers, lent, lent_bytes);
+    return written.value;
+}
+
+static int64_t read_volume(const uint8_t *volume, size_t volume_bytes, uint32_t *entries, size_t numbers, size_t times)
+{
+    struct plain_answer read = { 0, 0 };
+    for (size_t i = 0; i < times; i++)
+        read = plain_read_volume(volume, volume_bytes, entries, numbers);
+    return read.refusal == 0 ? (int64_t)read.value : -1;
+}
+
+const struct implementation COLUMN = { TITLE, create, set_up, cipher, 1, move, recover, write_checkpoint, load, write_volume, read_volume };

@@ -66,6 +66,18 @@ extern "C" {
 /* The last position: no key and IV gives more than 64 MiB of keystream. */
 #define HC_LIMIT 67108864
 
+/* A shift volume: the count of its entries, then the entries, four numbers each and in this order:
+ *     minutes since the previous entry   0 to 1,440
+ *     litres                             0 to 100,000
+ *     ratio in hundredths of a percent   0 to 10,000
+ *     product                            1 to 8
+ * The count is 0 to HC_VOLUME_ENTRIES. Each number is in groups of seven bits, lowest first; the top bit of a byte says that another group follows;
+ * the last group is not 0, except in the single byte of number 0; at most three groups. You lend entries as one list of numbers, four an entry, so
+ * that entry i begins at element 4 * i; HC_VOLUME_BYTES is the length of the longest volume. */
+#define HC_VOLUME_ENTRIES 2000
+#define HC_ENTRY_NUMBERS 4
+#define HC_VOLUME_BYTES 16002
+
 enum hc_refusal {
     HC_OK = 0,
     HC_BAD_CODE = 1,       /* the cipher code is neither 1 nor 2; a head before set up or load has code 0 */
@@ -75,12 +87,15 @@ enum hc_refusal {
     HC_BAD_POSITION = 5,   /* the position is over HC_LIMIT */
     HC_PAST_LIMIT = 6,     /* the call would end past HC_LIMIT */
     HC_BEFORE_START = 7,   /* the move would end before position 0 */
-    HC_LITTLE_ROOM = 8,    /* fewer bytes lent than the checkpoint has */
+    HC_LITTLE_ROOM = 8,    /* fewer bytes lent than the checkpoint or the volume has, or fewer numbers than its entries have */
     HC_ENDS_EARLY = 9,     /* the checkpoint is empty or ends inside its position */
     HC_BAD_NUMBER = 10,    /* the checkpoint's position is longer than four bytes, or not in its shortest form */
     HC_STRING_LENGTH = 11, /* the bytes after the position are not as many as the tables */
     HC_NO_KEY = 12,        /* no key and IV have these tables at this position */
-    HC_FALSE_WORD = 13     /* the head's word is not the one that the area has at the head's position */
+    HC_FALSE_WORD = 13,    /* the head's word is not the one that the area has at the head's position */
+    HC_VOLUME_NUMBER = 14, /* a number of the volume is not in its shortest form, or its third byte announces another */
+    HC_VOLUME_RANGE = 15,  /* a number of the volume, or of the entries to write, is out of its range */
+    HC_VOLUME_ENDS = 16    /* the volume ends early or has bytes after its last entry; or the numbers to write are not whole entries */
 };
 
 /* A head. Start with { 0, 0, 0, 0 }; only the calls below change it. */
@@ -91,7 +106,7 @@ struct hc_head {
     uint64_t mark;     /* how far the keystream has been used since the last set up or load: see hc_spent */
 };
 
-/* What hc_checkpoint_length and hc_write return. length is 0 where the call is refused. */
+/* What hc_checkpoint_length, hc_write and hc_write_volume return. length is 0 where the call is refused. */
 struct hc_length {
     uint64_t refusal;
     size_t length;
@@ -105,7 +120,7 @@ struct hc_words {
     uint32_t iv[8];
 };
 
-/* What hc_spent returns. count is 0 where the call is refused. */
+/* What hc_spent and hc_read_volume return. count is 0 where the call is refused. */
 struct hc_count {
     uint64_t refusal;
     uint64_t count;
@@ -152,6 +167,37 @@ struct hc_words hc_load(struct hc_head *head, uint32_t *area, size_t area_words,
  * hc_spent returns it, and hc_cipher takes the larger of it and its own end. Refusal 5 is about the position, whatever the mark. The head stays.
  * Refusals: 1, 5. Stack: 0 bytes. */
 struct hc_count hc_spent(struct hc_head *head);
+
+/* Write volume: puts the volume of these entries at the start of the lent bytes and returns its length; later bytes and the entries stay.
+ * numbers is four times the count of entries.
+ * Refusals: 16 where numbers is not a multiple of 4; 15 for more than HC_VOLUME_ENTRIES entries or a number out of its range; 8 for fewer lent
+ * bytes than the volume has. Stack: 0 bytes. */
+struct hc_length hc_write_volume(const uint32_t *entries, size_t numbers, uint8_t *lent, size_t lent_bytes);
+
+/* Read volume: puts the entries of a volume at the start of the lent list and returns their count; later elements stay. volume is the volume and no
+ * byte more. Nothing is put into the list before the whole volume has been read.
+ * Refusals, for the first number from the volume's start that is at fault: 16 where the volume ends before its last group, 14 where it is not in
+ * its shortest form or its third group announces another, 15 where it is out of its range (14 where it earns both); then 16 for bytes after the
+ * last entry; then 8 where the list has fewer than four elements for each entry. Stack: 0 bytes. */
+struct hc_count hc_read_volume(const uint8_t *volume, size_t volume_bytes, uint32_t *entries, size_t numbers);
+
+/* Encipher volume: enciphers a written volume in its buffer, as hc_cipher does with these bytes: position, tables, word and mark are then those after
+ * that call. volume is the volume and no byte more: lend as many bytes as hc_write_volume returned. hc_cipher deciphers it again, at the same
+ * position.
+ * Refusals: 16, 14, 15 as hc_read_volume, then 1, 4, 5, 13, 6 as hc_cipher. Stack: 0 bytes.
+ *
+ * A shift's entries, written and enciphered:
+ *
+ *     uint32_t entries[2 * HC_ENTRY_NUMBERS] = {
+ *         0, 1000, 525, 4,    // at once, 1,000 litres at 5.25 percent of product 4
+ *         15, 20000, 610, 2,  // 15 minutes later, 20,000 litres at 6.1 percent of product 2
+ *     };
+ *     uint8_t volume[HC_VOLUME_BYTES];
+ *     struct hc_length written = hc_write_volume(entries, 2 * HC_ENTRY_NUMBERS, volume, sizeof volume);
+ *     if (written.refusal == HC_OK)
+ *         refusal = hc_encipher_volume(&head, area, HC_128_AREA_WORDS, volume, written.length);
+ */
+uint64_t hc_encipher_volume(struct hc_head *head, uint32_t *area, size_t area_words, uint8_t *volume, size_t volume_bytes);
 
 #ifdef __cplusplus
 }

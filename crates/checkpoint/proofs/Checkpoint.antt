@@ -6,6 +6,7 @@ use native.Mathlib.Nat.{zero-add}
 use native.Mathlib.Omega.{arith}
 use lib.ListN.{length, set, drop, length-append}
 use lib.Seq.{sets, sets-eq}
+use Rattle.laws.proofs.Stores.{sets-append}
 use Rattle.word.specs.Bytes.{bytes}
 use Rattle.word.proofs.Bytes.{length-bytes}
 use Rattle.varint.specs.Number.{number}
@@ -13,7 +14,6 @@ use Rattle.varint.proofs.Groups.{number-length}
 use Rattle.cipher.specs.declared.Cipher.{Cipher}
 use Rattle.cipher.specs.Numbers.{codeOf, areaLength}
 use Rattle.checkpoint.specs.Checkpoint.{layout, lengthOf, mostGroups, longest}
-use Rattle.checkpoint.proofs.Stores.{sets-append}
 
 -- a position is below 2 ^ 28: it has at most four groups
 position-length : (p : ℕ) → p < 2 ^ 28 → length (number p) ≤ mostGroups

@@ -1,19 +1,14 @@
 -- Lists stored one after another: the bytes of a word, and of words one by one. Assumes nothing.
 use mathlib.Core.Path.{_≡_, refl, ap, _∙_}
 use mathlib.Core.List.{List, [], _∷_, _++_}
-use Prim.Native.Nat.{ℕ, suc, _+_, _*_, _<_}
-use native.Mathlib.Nat.{add-zero}
+use Prim.Native.Nat.{ℕ, _+_, _*_, _<_}
 use native.Mathlib.Numerals.{add-one, add-two, add-three}
 use native.Mathlib.Omega.{arith}
 use lib.ListN.{length, getD, take, set}
 use lib.Seq.{sets, take-suc, length-take-le}
+use Rattle.laws.proofs.Stores.{sets-append}
 use Rattle.word.specs.Bytes.{byte, bytes}
 use Rattle.word.proofs.Bytes.{length-bytes}
-
-pub sets-append : (l : List ℕ) (i : ℕ) (xs ys : List ℕ) → sets l i (xs ++ ys) ≡ sets (sets l i xs) (i + length xs) ys
-sets-append l i [] ys = rw add-zero
-sets-append l i (x ∷ xs) ys =
-    let e : i + suc (length xs) ≡ suc i + length xs = omega arith in rw e (sets-append (set l i x) (suc i) xs ys)
 
 -- a word's four bytes
 pub word-stored : (l : List ℕ) (at w : ℕ) {b₀ b₁ b₂ b₃ : ℕ} → b₀ ≡ byte 0 w → b₁ ≡ byte 1 w → b₂ ≡ byte 2 w → b₃ ≡ byte 3 w

@@ -1,7 +1,7 @@
 -- Document 01, 'Checkpoint': 'one byte for the cipher code, the position as a number, then 2T words'.
 use mathlib.Core.List.{List, _∷_, _++_}
 use Prim.Native.Nat.{ℕ, _+_, _*_}
-use lib.ListN.{length, drop}
+use lib.ListN.{length}
 use Rattle.word.specs.Bytes.{bytes}
 use Rattle.varint.specs.Number.{number}
 use Rattle.cipher.specs.declared.Cipher.{Cipher}
@@ -13,10 +13,6 @@ layout c position s = codeOf c ∷ (number position ++ bytes s)
 -- Document 02 (g), the length of a checkpoint: 'exactly 1, plus the groups of the position (1 to 4), plus 4 times 2T'
 abbrev pub lengthOf : Cipher → ℕ → ℕ
 lengthOf c position = 1 + length (number position) + 4 * areaLength c
-
--- a string at the start of lent bytes; later bytes stay
-abbrev pub putFirst : (string lent : List ℕ) → List ℕ
-putFirst string lent = string ++ drop (length string) lent
 
 -- 'at most four groups'
 abbrev pub mostGroups : ℕ

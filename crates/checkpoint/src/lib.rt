@@ -4,6 +4,7 @@ ghost use mathlib.Core.List.{_∷_, []};
 ghost use Prim.Native.Nat.{_+_, _*_, _≤_};
 ghost use lib.ListN.{length, drop};
 ghost use lib.Seq.{sets};
+ghost use Rattle.laws.specs.Lent.{putFirst};
 ghost use Rattle.word.specs.Bytes.{bytes, words};
 ghost use Rattle.cipher.specs.Numbers.{areaLength};
 ghost use Rattle.checkpoint.specs.Checkpoint as Checkpoint;
@@ -46,7 +47,7 @@ fn put_words(out: &mut [u8], at: usize, area: &[u32])
 // Puts the checkpoint at the start of the lent bytes; later bytes stay.
 pub fn write_checkpoint(cipher: Cipher, position: u64, area: &[u32], lent: &mut [u8])
     requires { ⌜ (length (now area) ≡ areaLength cipher) × (Checkpoint.lengthOf cipher position ≤ length (now lent)) ⌝ }
-    ensures { λ _. ⌜ now (lent .exit) ≡ Checkpoint.putFirst (Checkpoint.layout cipher position (now (area .entry))) (now (lent .entry)) ⌝ }
+    ensures { λ _. ⌜ now (lent .exit) ≡ putFirst (Checkpoint.layout cipher position (now (area .entry))) (now (lent .entry)) ⌝ }
 {
     let row = cipher::row_of(cipher);
     lent[0] = row.code;

@@ -12,10 +12,10 @@ use Rattle.cipher.specs.Numbers.{byCode, areaLength}
 use Rattle.varint.specs.Number.{readNumber}
 use Rattle.checkpoint.specs.Checkpoint.{mostGroups}
 use Rattle.conditions.specs.declared.Beginning.{Beginning}
-use Rattle.conditions.specs.Result.{Result, refused, accepted}
+use Rattle.laws.specs.Result.{Result, refused, accepted, resultOf}
 use Rattle.conditions.specs.Limit.{limit}
 use Rattle.conditions.specs.Conditions.{PositionRead, positionRead, firstByte, loadCheck}
-use Rattle.conditions.specs.Checks.{resultOf, BeginningIs}
+use Rattle.conditions.specs.Checks.{BeginningIs}
 use Rattle.reader.specs.declared.Position.{Position}
 use Rattle.reader.specs.Readings.{positionOf}
 use Rattle.reader.proofs.Positions.{position-cases}

@@ -10,20 +10,9 @@ use Rattle.cipher.specs.declared.Cipher.the-variants.{Hc128}
 use Rattle.cipher.specs.Numbers.{areaLength, keyLength, ivLength}
 use Rattle.steps.specs.Steps.{wordAt}
 use Rattle.conditions.specs.declared.Checked.{Checked}
-use Rattle.conditions.specs.Result.{Result, refused, accepted}
+use Rattle.laws.specs.Result.{Result, refused, accepted}
 use Rattle.conditions.specs.Limit.{limit}
-use Rattle.conditions.specs.Checks.{resultOf, checkedIs, Sized, Ready, ReadyWithWord, HeadReady}
-
--- ---- what a caller learns
-
-module _ {A : Type 0} (n : ℕ) (a : A) (X : Result A) (e : resultOf n a ≡ X) where
-  pub is-refused : (n ≡ 0 → ⊥) → X ≡ refused n
-  is-refused h = sym e ∙ rw (ne-eqb n 0 h)
-
-  pub is-accepted : n ≡ 0 → X ≡ accepted a
-  is-accepted h = sym e ∙ rw (eq-eqb n 0 h)
-
--- ---- what the checks themselves show
+use Rattle.conditions.specs.Checks.{checkedIs, Sized, Ready, ReadyWithWord, HeadReady}
 
 module _ (r : Checked) (X : Result Cipher) (n : ℕ) (some : n ≡ 0 → ⊥) (e : r ≡ record { refusal = n; cipher = Hc128 }) (x : X ≡ refused n) where
   refused-is : checkedIs r ≡ X

@@ -8,7 +8,7 @@ use lib.ListN.{length}
 use Rattle.cipher.specs.declared.Cipher.{Cipher}
 use Rattle.cipher.specs.Numbers.{byCode, areaLength, keyLength, ivLength}
 use Rattle.steps.specs.Steps.{wordAt}
-use Rattle.conditions.specs.Result.{refused, accepted}
+use Rattle.laws.specs.Result.{refused, accepted}
 use Rattle.conditions.specs.Limit.{limit}
 use Rattle.conditions.specs.Conditions.{setUpCheck, ready, readyWithWord, headCheck}
 

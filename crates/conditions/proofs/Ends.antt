@@ -6,7 +6,7 @@ use borrow.Author.Tests.{ne-eqb, le-leb, lt-leb, lt-ltb, le-ltb}
 use lib.IntN.{ℤ, pos, negsuc}
 use Rattle.conditions.specs.declared.End.{End}
 use Rattle.conditions.specs.declared.Distance.the-variants.{Forward, Back}
-use Rattle.conditions.specs.Result.{refused, accepted}
+use Rattle.laws.specs.Result.{refused, accepted}
 use Rattle.conditions.specs.Limit.{limit}
 use Rattle.conditions.specs.Conditions.{endOf}
 use Rattle.conditions.specs.Checks.{EndsAt, distanceIs}

@@ -1,9 +1,7 @@
 -- What the structs that the code passes between the conditions of a call mean. Only contracts below the calls cite it.
 use mathlib.Core.Path.{_≡_}
-use mathlib.Core.Bool.{cond}
 use mathlib.Core.List.{List}
 use Prim.Native.Nat.{ℕ, _+_, _*_, _≤_}
-use lib.Dec.{eqb}
 use lib.IntN.{ℤ, pos, negsuc}
 use lib.ListN.{length, drop}
 use Rattle.cipher.specs.declared.Cipher.{Cipher}
@@ -15,13 +13,9 @@ use Rattle.conditions.specs.declared.Beginning.{Beginning}
 use Rattle.conditions.specs.declared.End.{End}
 use Rattle.conditions.specs.declared.Distance.{Distance}
 use Rattle.conditions.specs.declared.Distance.the-variants.{Forward, Back}
-use Rattle.conditions.specs.Result.{Result, refused, accepted}
+use Rattle.laws.specs.Result.{Result, refused, resultOf}
 use Rattle.conditions.specs.Limit.{limit}
 use Rattle.conditions.specs.Conditions.{endOf, loadCheck, loadFound}
-
--- a refusal number and a value, where 0 means accepted
-abbrev pub resultOf : {A : Type 0} → ℕ → A → Result A
-resultOf n a = cond (eqb n 0) (accepted a) (refused n)
 
 -- the result of a call's conditions, and the end of a move
 abbrev pub checkedIs : Checked → Result Cipher

@@ -15,7 +15,7 @@ use Rattle.setup.specs.SetUp as SetUp
 use Rattle.setup.specs.SetUp.{Undone, undo}
 use Rattle.varint.specs.Number.{Reading, is, ended, malformed, readNumber}
 use Rattle.checkpoint.specs.Checkpoint.{mostGroups}
-use Rattle.conditions.specs.Result.{Result, refused, accepted, _>>=_, _>>_, refuse_unless_, refuse_without_}
+use Rattle.laws.specs.Result.{Result, refused, accepted, _>>=_, _>>_, refuse_unless_, refuse_without_}
 use Rattle.conditions.specs.Limit.{limit}
 
 -- **Set up** 1: cipher code is neither 1 nor 2. 2: key length. 3: IV length. 4: area is not 2T words.

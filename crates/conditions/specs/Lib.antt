@@ -1,4 +1,3 @@
-pub mod Result
 pub mod Limit
 pub mod Conditions
 pub mod Checks

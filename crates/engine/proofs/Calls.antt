@@ -20,17 +20,19 @@ use Rattle.schedule.specs.Origin.{origin, isFilled}
 use Rattle.steps.specs.Steps.{moved, lastOutput, wordAt}
 use Rattle.keystream.specs.Keystream.{CipheredFrom}
 use Rattle.keystream.proofs.Positions.{moved-on}
+use Rattle.volume.specs.declared.Entry.{Entry}
+use Rattle.volume.specs.Calls.{entriesIn}
 use Rattle.setup.specs.SetUp as SetUp
 use Rattle.setup.specs.SetUp.{none, found}
 use Rattle.setup.proofs.Inverse.{undo-not-filled, undo-filled}
 use Rattle.checkpoint.specs.Checkpoint.{layout, lengthOf}
 use Rattle.recovery.specs.Recovery.{filledAt}
 use Rattle.engine.specs.declared.Head.{Head}
-use Rattle.conditions.specs.Result.{refused, accepted}
+use Rattle.laws.specs.Result.{refused, accepted}
 use Rattle.conditions.specs.Limit.{limit}
 use Rattle.engine.specs.Head.{headAt, markAfter}
 use Rattle.conditions.specs.Conditions.{setUpCheck, headCheck, cipherCheck, endOf, moveCheck, undoAt, recoverCheck, loadFound, loadCheck}
-use Rattle.engine.specs.Calls.{engineOf, headReady, setUp, setUpCall, cipher, cipherCall, move, moveCall, write, writeCall, checkpointLength, checkpointLengthCall, recover, recoverCall, eightWords, load, loadCall, spent, spentCall}
+use Rattle.engine.specs.Calls.{engineOf, headReady, setUp, setUpCall, cipher, cipherCall, encipherVolume, encipherVolumeCall, move, moveCall, write, writeCall, checkpointLength, checkpointLengthCall, recover, recoverCall, eightWords, load, loadCall, spent, spentCall}
 
 module _ (h : Head) (code : ℕ) (key iv area : List ℕ) where
   pub set-up-refused : (n : ℕ) → setUpCheck code (length key) (length iv) (length area) ≡ refused n
@@ -85,6 +87,17 @@ module _ (h : Head) (area bytes : List ℕ) where
     unfolding cipherCall cipher cipherCheck
     cipher-done new s bs word mark l p w m =
         rw (e, le-leb (h .position + length bytes) limit l, p, m, w .2, w .0, w .1, moved-on c area (h .position) (length bytes))
+
+module _ (h : Head) (area volume : List ℕ) where
+  pub encipher-refused : (n : ℕ) → entriesIn volume ≡ refused n
+      → record { refusal = n; value = record { engine = engineOf h area; bytes = volume } } ≡ encipherVolumeCall h area volume
+  unfolding encipherVolumeCall encipherVolume
+  encipher-refused n e = rw e
+
+  -- once the volume is read it is the cipher call
+  pub encipher-ciphers : (entries : List Entry) → entriesIn volume ≡ accepted entries → cipherCall h area volume ≡ encipherVolumeCall h area volume
+  unfolding encipherVolumeCall encipherVolume cipherCall
+  encipher-ciphers entries e = rw e
 
 module _ (h : Head) (area : List ℕ) (d : ℤ) where
   pub move-refused : (n : ℕ) → headReady h area ≡ refused n

@@ -1,7 +1,7 @@
 -- How an answer, the next head and the contents of area and lent slices make the outcome that a call's definition speaks of.
 use mathlib.Core.List.{List}
 use Prim.Native.Nat.{ℕ}
-use Rattle.conditions.specs.Result.{Outcome}
+use Rattle.laws.specs.Result.{Outcome}
 use Rattle.engine.specs.declared.Head.{Head}
 use Rattle.engine.specs.declared.answers.LengthAnswer.{LengthAnswer}
 use Rattle.engine.specs.declared.answers.LoadAnswer.{LoadAnswer}
@@ -12,7 +12,7 @@ use Rattle.engine.specs.Calls.{Engine, Ciphered, Written, Recovered, Loa
 abbrev pub done : (refusal : ℕ) (head : Head) (area : List ℕ) → Outcome Engine
 done refusal head area = record { refusal = refusal; value = record { head = head; area = area } }
 
--- cipher
+-- cipher and encipher volume
 abbrev pub ciphered : (refusal : ℕ) (head : Head) (area bytes : List ℕ) → Outcome Ciphered
 ciphered refusal head area bytes =
     record { refusal = refusal; value = record { engine = record { head = head; area = area }; bytes = bytes } }

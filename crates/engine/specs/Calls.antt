@@ -1,4 +1,4 @@
--- The seven calls of document 01, and the length of a checkpoint of document 02 (g), as definitions of their inputs. Each has its result, which is
+-- The seven calls of document 01, and the length of a checkpoint and the enciphering of a volume of document 02 (g) and (d), as definitions of their inputs. Each has its result, which is
 -- the refusal or what an accepted call gives, and its outcome, which says what it leaves, refused or not: head, area and every lent list.
 use mathlib.Core.List.{List, _++_}
 use Prim.Native.Nat.{ℕ, _+_, _-_}
@@ -10,9 +10,11 @@ use Rattle.cipher.specs.declared.Cipher.{Cipher}
 use Rattle.cipher.specs.Numbers.{codeOf}
 use Rattle.steps.specs.Steps.{moved, wordAt}
 use Rattle.keystream.specs.Keystream.{ciphered}
+use Rattle.volume.specs.Calls.{entriesIn}
 use Rattle.setup.specs.SetUp as SetUp
-use Rattle.checkpoint.specs.Checkpoint.{layout, lengthOf, putFirst}
-use Rattle.conditions.specs.Result.{Result, accepted, Outcome, outcome, _>>=_, _>>_, refuse_unless_}
+use Rattle.checkpoint.specs.Checkpoint.{layout, lengthOf}
+use Rattle.laws.specs.Lent.{putFirst}
+use Rattle.laws.specs.Result.{Result, accepted, Outcome, outcome, _>>=_, _>>_, refuse_unless_}
 use Rattle.conditions.specs.Conditions.{setUpCheck, readyWithWord, headCheck, cipherCheck, moveCheck, recoverCheck, loadCheck}
 use Rattle.engine.specs.declared.Head.{Head}
 use Rattle.engine.specs.Head.{headAt, markAfter}
@@ -61,6 +63,16 @@ cipher h area bytes = do
 
 unfoldable pub cipherCall : (head : Head) (area bytes : List ℕ) → Outcome Ciphered
 cipherCall h area bytes = outcome (record { engine = engineOf h area; bytes = bytes }) (cipher h area bytes)
+
+-- **Encipher volume** (document 02 (d)) 'enciphers a written volume in its buffer, a cipher call in the account and for the mark'. It 'refuses as
+-- reading does, 8 excepted, then as a cipher call does', and where both accept it is that cipher call.
+unfoldable pub encipherVolume : (head : Head) (area volume : List ℕ) → Result Ciphered
+encipherVolume h area volume = do
+  entriesIn volume
+  cipher h area volume
+
+unfoldable pub encipherVolumeCall : (head : Head) (area volume : List ℕ) → Outcome Ciphered
+encipherVolumeCall h area volume = outcome (record { engine = engineOf h area; bytes = volume }) (encipherVolume h area volume)
 
 -- **Move** takes a signed 64-bit distance in bytes. It leaves the mark.
 unfoldable pub move : (head : Head) (area : List ℕ) (distance : ℤ) → Result Engine

@@ -1,5 +1,6 @@
-// The engine: a head and its table area, the seven calls of document 01, and the length of a checkpoint. Each of the seven receives the head and
-// hands back the next one beside its answer. A refused call gives its number, and head, area and every lent byte keep their values.
+// The engine: a head and its table area, the seven calls of document 01, the enciphering of a volume, and the length of a checkpoint. All but the last
+// receive the head and hand back the next one beside their answer. A refused call gives its number, and head, area and every lent byte keep their
+// values.
 ghost use mathlib.Core.Path.{_≡_};
 ghost use lib.ListN.{replicate};
 ghost use Rattle.engine.specs.Head as Heads;
@@ -177,6 +178,23 @@ impl Head {
             refusal: 0,
             head: Head::at(code, end, last, mark_after(mark, end, n)),
         }
+    }
+
+    // Enciphers a written volume in its buffer: the bytes are read as a volume, and then it is the cipher call of these bytes.
+    pub fn encipher_volume(self, area: &mut [u32], bytes: &mut [u8]) -> Done
+        ensures { λ r. ⌜
+            Answers.ciphered (r .refusal) (r .head) (now (area .exit)) (now (bytes .exit))
+            ≡ Calls.encipherVolumeCall self (now (area .entry)) (now (bytes .entry)) ⌝ }
+    {
+        let found = volume::count_entries(bytes);
+        let refusal = found.refusal;
+        if refusal != 0 {
+            return Done {
+                refusal: refusal,
+                head: self,
+            };
+        }
+        Head::cipher(self, area, bytes)
     }
 
     // Moves the tables by a signed distance in bytes, and leaves the mark.

@@ -13,12 +13,12 @@ use Rattle.checkpoint.specs.Checkpoint.{mostGroups}
 use Rattle.setup.specs.SetUp.{Undone, none, found}
 use Rattle.engine.specs.declared.Head.{Head}
 use Rattle.engine.specs.declared.answers.Done.{Done}
-use Rattle.conditions.specs.Result.{Result, refused, accepted, Outcome, outcome}
+use Rattle.laws.specs.Result.{Result, refused, accepted, Outcome, outcome}
 use Rattle.conditions.specs.Limit.{limit}
 use Rattle.conditions.specs.Conditions.{ready, readyWithWord, cipherCheck, undoAt, foundOr12, positionRead, loadCheck}
 use Rattle.engine.specs.Calls.{headReady, Ciphered, cipher, cipherCall}
 use Rattle.engine.specs.Answers as Answers
-use Rattle.theorems.proofs.Results.{no-refusal, accepted-one, after-line, after-without, after-unless}
+use Rattle.laws.proofs.Results.{no-refusal, accepted-one, after-line, after-without, after-unless}
 use Rattle.theorems.proofs.Conditions.{cipher-shows}
 use Rattle.lab.specs.Tasks.{Advance}
 

@@ -30,7 +30,7 @@ use Rattle.setup.proofs.Inverse.{set-up-area}
 use Rattle.checkpoint.specs.Checkpoint.{layout, lengthOf}
 use Rattle.checkpoint.proofs.Checkpoint.{layout-length}
 use Rattle.engine.specs.declared.Head.{Head}
-use Rattle.conditions.specs.Result.{Result, refused, accepted, Outcome}
+use Rattle.laws.specs.Result.{Result, refused, accepted, Outcome}
 use Rattle.conditions.specs.Limit.{limit}
 use Rattle.engine.specs.Head.{freshHead, headAt, withMark, markAfter}
 use Rattle.conditions.specs.Conditions.{undoAt, foundOr12, Contents, setUpCheck, cipherCheck, loadCheck}
@@ -38,7 +38,7 @@ use Rattle.conditions.proofs.Conditions.{head-accepted}
 use Rattle.engine.specs.Calls.{Engine, engineOf, engineAt, headReady, setUp, setUpCall, cipher, cipherCall, move, moveCall, writeCall, recover, recoverCall, load, loadCall, spent}
 use Rattle.engine.proofs.Calls.{write-done}
 use Rattle.theorems.specs.Account.{Four, IsFour, atPosition, Checkpoint, tablesOf, engineOfFour, checkpointOf}
-use Rattle.theorems.proofs.Results.{no-refusal, accepted-one, after-line}
+use Rattle.laws.proofs.Results.{no-refusal, accepted-one, after-line}
 use Rattle.theorems.proofs.Conditions.{accepted-only, word-shows, word-accepted, load-passed, move-accepted, recover-finds}
 use Rattle.theorems.proofs.Checkpoints.{loadedOf, load-checkpoint}
 use Rattle.theorems.proofs.Twice.{ciphered-twice}

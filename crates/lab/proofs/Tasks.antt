@@ -17,7 +17,7 @@ use Rattle.engine.specs.declared.Head.{Head}
 use Rattle.engine.specs.declared.answers.Done.{Done}
 use Rattle.engine.specs.declared.answers.WriteDone.{WriteDone}
 use Rattle.engine.specs.declared.answers.LoadDone.{LoadDone}
-use Rattle.conditions.specs.Result.{Result, refused, accepted, Outcome, outcome}
+use Rattle.laws.specs.Result.{Result, refused, accepted, Outcome, outcome}
 use Rattle.conditions.specs.Limit.{limit}
 use Rattle.engine.specs.Head.{freshHead}
 use Rattle.conditions.specs.Conditions.{endOf}

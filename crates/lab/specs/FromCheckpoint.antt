@@ -5,8 +5,9 @@ use Prim.Native.Nat.{ℕ, _≤_, max}
 use lib.ListN.{length}
 use Rattle.cipher.specs.Numbers.{codeOf, areaLength, keyLength, ivLength}
 use Rattle.setup.specs.SetUp as SetUp
-use Rattle.checkpoint.specs.Checkpoint.{lengthOf, putFirst}
-use Rattle.conditions.specs.Result.{accepted, Outcome}
+use Rattle.checkpoint.specs.Checkpoint.{lengthOf}
+use Rattle.laws.specs.Lent.{putFirst}
+use Rattle.laws.specs.Result.{accepted, Outcome}
 use Rattle.conditions.specs.Limit.{limit}
 use Rattle.engine.specs.Head.{freshHead, headAt, withMark}
 use Rattle.engine.specs.declared.Head.{Head}

@@ -14,7 +14,7 @@ use Rattle.cipher.specs.declared.Cipher.the-variants.{Hc128, Hc256}
 use Rattle.cipher.specs.Numbers.{codeOf}
 use Rattle.checkpoint.specs.Checkpoint.{mostGroups}
 use Rattle.engine.specs.declared.answers.Done.{Done}
-use Rattle.conditions.specs.Result.{Outcome}
+use Rattle.laws.specs.Result.{Outcome}
 use Rattle.conditions.specs.Limit.{limit}
 use Rattle.engine.specs.Head.{freshHead}
 use Rattle.engine.specs.Calls.{Engine, Written, Recovered, setUpCall, moveCall, writeCall, recoverCall, loadCall}

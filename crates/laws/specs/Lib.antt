@@ -1,2 +1,4 @@
 pub mod Iterate
 pub mod Same
+pub mod Result
+pub mod Lent

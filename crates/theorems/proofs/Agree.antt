@@ -14,15 +14,17 @@ use Rattle.keys.specs.Key.{Pair}
 use Rattle.steps.specs.Steps.{moved, wordAt}
 use Rattle.setup.specs.SetUp as SetUp
 use Rattle.engine.specs.declared.Head.{Head}
-use Rattle.conditions.specs.Result.{Result, refused, accepted, outcome, _>>=_}
+use Rattle.volume.specs.declared.Entry.{Entry}
+use Rattle.volume.specs.Calls.{entriesIn}
+use Rattle.laws.specs.Result.{Result, refused, accepted, outcome, _>>=_, _>>_}
 use Rattle.conditions.specs.Limit.{limit}
 use Rattle.engine.specs.Head.{headAt, markAfter}
 use Rattle.conditions.specs.Conditions.{setUpCheck, headCheck, cipherCheck, moveCheck, recoverCheck, Contents, loadCheck}
-use Rattle.engine.specs.Calls.{Engine, engineOf, engineAt, headReady, Ciphered, Written, Recovered, Loaded, Counted, setUp, setUpCall, cipher, cipherCall, move, moveCall, write, writeCall, recover, recoverCall, load, loadCall, spent, spentCall}
+use Rattle.engine.specs.Calls.{Engine, engineOf, engineAt, headReady, Ciphered, Written, Recovered, Loaded, Counted, setUp, setUpCall, cipher, cipherCall, encipherVolume, encipherVolumeCall, move, moveCall, write, writeCall, recover, recoverCall, load, loadCall, spent, spentCall}
 use Rattle.conditions.proofs.Conditions.{ready-unknown, word-not-ready}
-use Rattle.theorems.specs.Account.{Call, call-set-up, call-cipher, call-move, call-write, call-recover, call-load, call-spent, Given, AllGiven, called, run, Four, IsFour, Account, empty, holds, accountCode, accountPosition, accountReady, at, unless-refused, feed, account, engineAfter, accountAfter, tablesOf}
+use Rattle.theorems.specs.Account.{Call, call-set-up, call-cipher, call-encipher-volume, call-move, call-write, call-recover, call-load, call-spent, Given, AllGiven, called, run, Four, IsFour, Account, empty, holds, accountCode, accountPosition, accountReady, at, unless-refused, feed, account, engineAfter, accountAfter, tablesOf}
 use Rattle.theorems.specs.Farthest.{withEnd, reachedBy, reachedSince, largest}
-use Rattle.theorems.proofs.Results.{no-refusal, outcome-same, accepted-one, after-first, after-line}
+use Rattle.laws.proofs.Results.{no-refusal, outcome-same, accepted-one, after-first, after-line}
 use Rattle.theorems.proofs.Tables.{four-sized, four-ready, four-true, four-moved}
 use Rattle.theorems.proofs.Conditions.{same-code, no-code-0, ready-shows, set-up-shows, cipher-shows, move-shows}
 use Rattle.theorems.proofs.Checkpoints.{fourOf, load-shows}
@@ -176,13 +178,15 @@ module _ (start : List ℕ) where
       (sym (zero-max (l .position)))
       (r .checkpoint .is-four .within)
 
-  agree-at : (call : Call) (a : Account) (reached s : List ℕ) → Given call → TablesAre start a s → ReachedIs a reached
-      → Agrees start (length s) (feed (length s) a call) (reachedBy (length s) a reached call) (called (engineIn a reached s) call)
-  unfolding feed reachedBy called setUpCall setUp cipherCall cipher moveCall move loadCall load
-  agree-at (call-set-up code key iv) a reached s g t m =
-      by-answer (Agrees start (length s)) a _ reached _ _ _ (λ (e : Engine). e) (setUpCheck code (length key) (length iv) (length s)) _ refl
-      (same a reached s t m) λ c e. set-up-agrees code key iv s c (g .0) (g .1) e
-  agree-at (call-cipher bytes) a reached s g t m =
+  -- a cipher call after another condition: r is its result
+  cipher-agrees : (r : Result (List Entry)) (bytes : List ℕ) (a : Account) (reached s : List ℕ) → TablesAre start a s → ReachedIs a reached
+      → let check = r >> cipherCheck (accountReady (length s) a) (accountPosition a) (length bytes) in
+      let end = accountPosition a + length bytes in
+      Agrees start (length s) (unless-refused a check (λ c. at a end)) (unless-refused reached check (λ c. withEnd bytes end reached))
+      (outcome (record { engine = engineIn a reached s; bytes = bytes }) (r >> cipher (headOf a (largest reached)) s bytes) .value .engine)
+  unfolding cipher
+  cipher-agrees (refused n) bytes a reached s t m = same a reached s t m
+  cipher-agrees (accepted entries) bytes a reached s t m =
       let begun = accountReady (length s) a in
       let position = accountPosition a in
       by-answer (Agrees start (length s)) a _ reached _ _ _ (λ (r : Ciphered). r .engine) (cipherCheck begun position (length bytes)) _
@@ -190,6 +194,15 @@ module _ (start : List ℕ) where
       let r = cipher-shows begun position (length bytes) c e in
       let end = position + length bytes in
       moved-agrees a s c end reached _ _ t m (r .0) (r .1) (mark-reached reached bytes end) (mark-within (largest reached) end (length bytes) (r .1))
+
+  agree-at : (call : Call) (a : Account) (reached s : List ℕ) → Given call → TablesAre start a s → ReachedIs a reached
+      → Agrees start (length s) (feed (length s) a call) (reachedBy (length s) a reached call) (called (engineIn a reached s) call)
+  unfolding feed reachedBy called setUpCall setUp cipherCall encipherVolumeCall encipherVolume moveCall move loadCall load
+  agree-at (call-set-up code key iv) a reached s g t m =
+      by-answer (Agrees start (length s)) a _ reached _ _ _ (λ (e : Engine). e) (setUpCheck code (length key) (length iv) (length s)) _ refl
+      (same a reached s t m) λ c e. set-up-agrees code key iv s c (g .0) (g .1) e
+  agree-at (call-cipher bytes) a reached s g t m = cipher-agrees (accepted []) bytes a reached s t m
+  agree-at (call-encipher-volume volume) a reached s g t m = cipher-agrees (entriesIn volume) volume a reached s t m
   agree-at (call-move distance) a reached s g t m =
       let begun = accountReady (length s) a in
       let position = accountPosition a in

@@ -13,7 +13,7 @@ use Rattle.steps.specs.Steps.{lastOutput}
 use Rattle.varint.proofs.Groups.{number-last, number-count}
 use Rattle.checkpoint.specs.Checkpoint.{lengthOf, longest}
 use Rattle.checkpoint.proofs.Checkpoint.{length-longest}
-use Rattle.conditions.specs.Result.{Result, refused, accepted, Outcome, outcome}
+use Rattle.laws.specs.Result.{Result, refused, accepted, Outcome, outcome}
 use Rattle.conditions.specs.Conditions.{headCheck}
 use Rattle.conditions.proofs.Conditions.{head-accepted}
 use Rattle.engine.specs.declared.Head.{Head}
@@ -21,7 +21,7 @@ use Rattle.engine.specs.Head.{headAt}
 use Rattle.engine.specs.Calls.{headReady, Written, write, checkpointLength, checkpointLengthCall}
 use Rattle.theorems.specs.Demand3.{given}
 use Rattle.theorems.specs.CheckpointLength.{CheckpointLength}
-use Rattle.theorems.proofs.Results.{no-refusal, accepted-one, after-line}
+use Rattle.laws.proofs.Results.{no-refusal, accepted-one, after-line}
 use Rattle.theorems.proofs.Conditions.{same-code, word-shows, word-accepted, head-shows}
 use Rattle.theorems.proofs.Writes.{write-shows, write-enough, write-too-few, write-iff, write-8-iff}
 

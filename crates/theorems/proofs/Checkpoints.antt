@@ -13,12 +13,12 @@ use Rattle.varint.proofs.Reading.{read-written, written-read}
 use Rattle.cipher.specs.declared.Cipher.{Cipher}
 use Rattle.cipher.specs.Numbers.{areaLength}
 use Rattle.tables.specs.Area.{Area}
-use Rattle.conditions.specs.Result.{accepted}
+use Rattle.laws.specs.Result.{accepted}
 use Rattle.conditions.specs.Limit.{limit}
 use Rattle.checkpoint.specs.Checkpoint.{layout, mostGroups}
 use Rattle.conditions.specs.Conditions.{undoAt, foundOr12, Contents, loadCheck}
 use Rattle.theorems.specs.Account.{Four, tablesOf, checkpointOf, Checkpoint}
-use Rattle.theorems.proofs.Results.{no-refusal, accepted-one, after-line}
+use Rattle.laws.proofs.Results.{no-refusal, accepted-one, after-line}
 use Rattle.theorems.proofs.Tables.{undo-finds, found-have, four-area}
 use Rattle.theorems.proofs.Conditions.{same-code, accepted-only, found-shows, LoadPassed, load-finds, load-passed}
 

@@ -1,5 +1,5 @@
 -- The calls that compare the head's word with the tables: 13 straight after 5, and exactly where the word is false. Assumes nothing.
-use mathlib.Core.Path.{_≡_, refl, sym, ap, _∙_}
+use mathlib.Core.Path.{_≡_, refl, sym, ap, _∙_, subst}
 use mathlib.Core.Bool.{false}
 use mathlib.Core.Logic.{⊎-elim}
 use mathlib.Core.List.{List, [], _∷_, List·Memᴰ}
@@ -12,12 +12,15 @@ use Rattle.cipher.specs.declared.Cipher.{Cipher}
 use Rattle.cipher.specs.Numbers.{keyLength, ivLength}
 use Rattle.steps.specs.Steps.{wordAt}
 use Rattle.checkpoint.specs.Checkpoint.{lengthOf}
-use Rattle.conditions.specs.Result.{Result, refused, accepted, Outcome, _>>=_}
+use Rattle.laws.specs.Result.{Result, refused, accepted, Outcome, _>>=_}
 use Rattle.conditions.specs.Limit.{limit}
 use Rattle.conditions.specs.Conditions.{ready, cipherCheck, within, endOf, moveCheck, undoAt, foundOr12, recoverCheck}
 use Rattle.conditions.proofs.Conditions.{word-not-ready, word-false, word-true}
 use Rattle.engine.specs.declared.Head.{Head}
-use Rattle.engine.specs.Calls.{headReady, cipher, move, write, recover}
+use Rattle.engine.specs.Calls.{headReady, cipher, encipherVolume, move, write, recover}
+use Rattle.volume.specs.declared.Entry.{Entry}
+use Rattle.volume.specs.Calls.{entriesIn}
+use Rattle.theorems.proofs.Encipher.{volume-ciphered}
 use Rattle.theorems.specs.Demand1.{Accepted, Refused, AcceptedOrRefused}
 use Rattle.theorems.specs.HeadWord.{Compares}
 use Rattle.theorems.proofs.Within.{Within, by-none, first, after, then-line, line-unless, found-within, end-within, among, not-among, within-not}
@@ -47,6 +50,10 @@ cipher-compares h area bytes =
     begins h area _ (6 ∷ [])
     (λ c. then-line _ _ (line-unless 6 (leb (h .position + length bytes) limit) _ first by-none) λ d. by-none) refl _
     (then-then (headReady h area) _ _)
+
+pub encipher-compares : (h : Head) (area volume : List ℕ) (entries : List Entry) → entriesIn volume ≡ accepted entries
+    → Compares h area (encipherVolume h area volume)
+encipher-compares h area volume entries e = subst (Compares h area) (sym (volume-ciphered h area volume entries e)) (cipher-compares h area volume)
 
 pub move-compares : (h : Head) (area : List ℕ) (d : ℤ) → Compares h area (move h area d)
 unfolding move moveCheck endOf

@@ -14,12 +14,12 @@ use Rattle.cipher.specs.Numbers.{byCode, codeOf, areaLength, keyLength, ivLengt
 use Rattle.cipher.proofs.Codes.{code-of, by-code}
 use Rattle.steps.specs.Steps.{wordAt}
 use Rattle.setup.specs.SetUp.{Undone, none, found}
-use Rattle.conditions.specs.Result.{Result, refused, accepted}
+use Rattle.laws.specs.Result.{Result, refused, accepted}
 use Rattle.conditions.specs.Limit.{limit}
 use Rattle.checkpoint.specs.Checkpoint.{mostGroups}
 use Rattle.conditions.specs.Conditions.{setUpCheck, ready, readyWithWord, headCheck, cipherCheck, within, endOf, Course, moveCheck, undoAt, KeyAndIv, foundOr12, recoverCheck, PositionRead, positionRead, Contents, loadFound, loadCheck}
 use Rattle.conditions.proofs.Conditions.{ready-accepted, word-true}
-use Rattle.theorems.proofs.Results.{no-refusal, accepted-one, after-line, after-without, after-unless}
+use Rattle.laws.proofs.Results.{no-refusal, accepted-one, after-line, after-without, after-unless}
 
 -- ── codes ──
 

@@ -1,21 +1,23 @@
 -- Every refusal of a call is one of its own numbers, since each line of its conditions has one of them; and a refused call leaves what was there.
 -- Assumes nothing.
-use Prim.Native.Nat.{_+_, _*_}
+use Prim.Native.Nat.{_+_, _*_, _%_}
 use lib.Dec.{eqb, leb}
 use lib.IntN.{pos, _+ℤ_}
 use lib.ListN.{length, drop}
 use Rattle.word.specs.Bytes.{words}
 use Rattle.cipher.specs.Numbers.{byCode, areaLength, keyLength, ivLength}
 use Rattle.varint.specs.Number.{readNumber}
+use Rattle.volume.specs.Volume.{inRange, countRange, entriesInRange, volumeString, entriesOf}
+use Rattle.volume.specs.Calls.{entriesIn, readVolume, readVolumeCall, writeVolume, writeVolumeCall}
 use Rattle.checkpoint.specs.Checkpoint.{mostGroups, lengthOf}
 use Rattle.conditions.specs.Limit.{limit}
 use Rattle.conditions.specs.Conditions.{setUpCheck, headCheck, cipherCheck, within, endOf, moveCheck, undoAt, foundOr12, recoverCheck, positionRead, firstByte, loadCheck}
-use Rattle.engine.specs.Calls.{headReady, setUp, setUpCall, cipher, cipherCall, move, moveCall, write, writeCall, checkpointLength, checkpointLengthCall, recover, recoverCall, load, loadCall, spent, spentCall}
+use Rattle.engine.specs.Calls.{headReady, setUp, setUpCall, cipher, cipherCall, encipherVolume, encipherVolumeCall, move, moveCall, write, writeCall, checkpointLength, checkpointLengthCall, recover, recoverCall, load, loadCall, spent, spentCall}
 use Rattle.theorems.specs.Demand1.{Demand1}
-use Rattle.theorems.proofs.Within.{by-none, first, after, then-line, line-unless, line-without, first-line, answers, word-within, head-within, found-within, end-within, position-within}
+use Rattle.theorems.proofs.Within.{by-none, first, after, then-line, line-unless, line-without, first-line, answers, word-within, head-within, found-within, end-within, position-within, volume-within}
 
 pub demand1 : Demand1
-unfolding setUpCall setUp setUpCheck cipherCall cipher cipherCheck moveCall move moveCheck endOf writeCall write checkpointLengthCall checkpointLength recoverCall recover recoverCheck loadCall load loadCheck spentCall spent
+unfolding setUpCall setUp setUpCheck cipherCall cipher cipherCheck encipherVolumeCall encipherVolume moveCall move moveCheck endOf writeCall write checkpointLengthCall checkpointLength recoverCall recover recoverCheck loadCall load loadCheck spentCall spent writeVolumeCall writeVolume readVolumeCall readVolume
 demand1 = record {
   of-set-up = λ h code key iv area.
       answers _ (setUp code key iv area)
@@ -32,6 +34,15 @@ demand1 = record {
       (word-within (h .code) (h .position) (h .word) area first (after first) (after (after first)) (after (after (after first)))) λ c.
       line-unless 6 (leb (h .position + length bytes) limit) _ (after (after (after (after first)))) by-none)
       (λ c. by-none));
+  of-encipher-volume = λ h area volume.
+      answers _ (encipherVolume h area volume)
+      (first-line (entriesIn volume) _ (volume-within first (after first) (after (after first)) volume)
+      (then-line (cipherCheck (headReady h area) (h .position) (length volume)) _
+      (then-line (headReady h area) _
+      (word-within (h .code) (h .position) (h .word) area (after (after (after (after first)))) (after (after (after (after (after first)))))
+      (after (after (after (after (after (after first)))))) (after (after (after (after (after (after (after first)))))))) λ c.
+      line-unless 6 (leb (h .position + length volume) limit) _ (after (after (after (after (after (after (after (after first)))))))) by-none)
+      (λ c. by-none)));
   of-move = λ h area d.
       answers _ (move h area d)
       (then-line (moveCheck (headReady h area) (h .position) d) _
@@ -75,4 +86,14 @@ demand1 = record {
   of-spent = λ h.
       answers _ (spent h)
       (first-line (headCheck (h .code) (h .position)) _ (head-within (h .code) (h .position) first (after first)) by-none);
+  of-write-volume = λ list lent.
+      answers _ (writeVolume list lent)
+      (line-unless 16 (eqb (length list % 4) 0) _ first
+      (line-unless 15 (inRange countRange (length (entriesOf list))) _ (after first)
+      (line-unless 15 (entriesInRange (entriesOf list)) _ (after (after first))
+      (line-unless 8 (leb (length (volumeString (entriesOf list))) (length lent)) _ (after (after (after first))) by-none))));
+  of-read-volume = λ string list.
+      answers _ (readVolume string list)
+      (then-line (entriesIn string) _ (volume-within first (after first) (after (after first)) string) λ entries.
+      line-unless 8 (leb (4 * length entries) (length list)) _ (after (after (after (after first)))) by-none);
 }

@@ -22,7 +22,7 @@ use Rattle.keystream.proofs.Ciphered.{length-ciphered}
 use Rattle.keystream.proofs.Keystream.{ciphered-keystream}
 use Rattle.setup.specs.SetUp as SetUp
 use Rattle.engine.specs.declared.Head.{Head}
-use Rattle.conditions.specs.Result.{accepted}
+use Rattle.laws.specs.Result.{accepted}
 use Rattle.conditions.specs.Limit.{limit}
 use Rattle.engine.specs.Head.{headAt, withMark, markAfter}
 use Rattle.conditions.specs.Conditions.{cipherCheck, endOf, moveCheck}
@@ -32,7 +32,7 @@ use Rattle.engine.proofs.Calls.{mark-again}
 use Rattle.theorems.specs.Account.{Four, IsFour, atPosition, empty, holds, tablesOf, engineOfFour}
 use Rattle.theorems.specs.Farthest.{largest}
 use Rattle.theorems.specs.Demand2.{Demand2}
-use Rattle.theorems.proofs.Results.{no-refusal, accepted-one, after-line, after-unless}
+use Rattle.laws.proofs.Results.{no-refusal, accepted-one, after-line, after-unless}
 use Rattle.theorems.proofs.Tables.{moved-area, moved-undone, undo-finds, four-true, four-moved}
 use Rattle.theorems.proofs.Twice.{ciphered-twice}
 use Rattle.theorems.proofs.Conditions.{same-code, word-shows, word-accepted, cipher-shows, move-shows, move-accepted, recover-finds}

@@ -10,26 +10,30 @@ use lib.ListN.{length, drop}
 use Rattle.word.specs.Bytes.{AllBytes}
 use Rattle.cipher.specs.Numbers.{byCode, codeOf, areaLength}
 use Rattle.cipher.proofs.Codes.{code-of}
-use Rattle.conditions.specs.Result.{Result, refused, accepted}
+use Rattle.laws.specs.Result.{Result, refused, accepted}
+use Rattle.volume.specs.declared.Entry.{Entry}
+use Rattle.volume.specs.Calls.{entriesIn}
 use Rattle.steps.specs.Steps.{wordAt}
 use Rattle.checkpoint.specs.Checkpoint.{layout, lengthOf, longest}
 use Rattle.checkpoint.proofs.Checkpoint.{length-longest}
 use Rattle.conditions.specs.Conditions.{Contents, loadCheck}
 use Rattle.engine.specs.declared.Head.{Head}
-use Rattle.engine.specs.Calls.{engineOf, engineAt, Written, Loaded, eightWords, write, load}
+use Rattle.engine.specs.Calls.{engineOf, engineAt, Written, Loaded, eightWords, encipherVolume, write, load}
 use Rattle.conditions.proofs.Conditions.{set-up-accepted, ready-unknown, ready-accepted}
-use Rattle.theorems.specs.Account.{Call, call-set-up, call-cipher, call-move, call-write, call-recover, call-load, call-spent, AllGiven, answered, Four, IsFour, Account, empty, holds, unless-refused, feed, account, engineAfter, accountAfter, checkpointOf, Checkpoint}
+use Rattle.theorems.specs.Account.{Call, call-set-up, call-cipher, call-encipher-volume, call-move, call-write, call-recover, call-load, call-spent, AllGiven, answered, Four, IsFour, Account, empty, holds, unless-refused, feed, account, engineAfter, accountAfter, checkpointOf, Checkpoint}
 use Rattle.theorems.specs.Farthest.{farthestAfter}
 use Rattle.theorems.specs.Demand3.{writeAfter, given, Names, Demand3}
-use Rattle.theorems.proofs.Results.{no-refusal, accepted-one, after-line}
+use Rattle.laws.proofs.Results.{no-refusal, accepted-one, after-line}
 use Rattle.theorems.proofs.Tables.{four-ready, four-true}
 use Rattle.theorems.proofs.Conditions.{same-code, no-code-0, move-accepted}
 use Rattle.theorems.proofs.Checkpoints.{fourOf, loadedOf, load-checkpoint, load-shows, load-is, checkpoint-of-one}
 use Rattle.theorems.proofs.Names.{name-of-one}
 use Rattle.theorems.proofs.Writes.{WriteShows, write-shows, write-iff}
 use Rattle.theorems.specs.HeadWord.{Compares}
+use Rattle.theorems.proofs.Within.{first, after, volume-within, within-not}
+use Rattle.theorems.proofs.Encipher.{volume-refused}
 use Rattle.theorems.proofs.Demand1.{demand1}
-use Rattle.theorems.proofs.Compares.{cipher-compares, move-compares, write-compares, recover-compares, answers-13, not-one-of}
+use Rattle.theorems.proofs.Compares.{cipher-compares, encipher-compares, move-compares, write-compares, recover-compares, answers-13, not-one-of}
 use Rattle.theorems.proofs.Agree.{headOf, TablesAre, agree, agree-four}
 
 -- ── what is written ──
@@ -96,11 +100,19 @@ module _ (start : List ℕ) (a : Account) (mark : ℕ) (s : List ℕ) (t : Table
   abbrev h : Head
   h = headOf a mark
 
+  -- reading a volume does not refuse with 13
+  encipher-no-13 : (volume : List ℕ) (r : Result (List Entry)) → entriesIn volume ≡ r → encipherVolume h s volume ≡ refused 13 → ⊥
+  encipher-no-13 volume (refused n) e q =
+      let z : n ≡ 13 = cc (volume-refused h s volume n e, q) in
+      within-not 13 (16 ∷ 14 ∷ 15 ∷ []) (entriesIn volume) (volume-within first (after first) (after (after first)) volume) refl (rw z at e)
+  encipher-no-13 volume (accepted entries) e q = true-compares start a mark s _ t (encipher-compares h s volume entries e) q
+
   answers-no-13 : (call : Call) → answered (engineOf h s) call ≡ 13 → ⊥
   unfolding answered
   answers-no-13 (call-set-up code key iv) q = not-one-of (demand1 .of-set-up h code key iv s) q refl
   answers-no-13 (call-cipher bytes) q =
       true-compares start a mark s _ t (cipher-compares h s bytes) (answers-13 (demand1 .of-cipher h s bytes) q)
+  answers-no-13 (call-encipher-volume volume) q = encipher-no-13 volume (entriesIn volume) refl (answers-13 (demand1 .of-encipher-volume h s volume) q)
   answers-no-13 (call-move distance) q =
       true-compares start a mark s _ t (move-compares h s distance) (answers-13 (demand1 .of-move h s distance) q)
   answers-no-13 (call-write lent) q =

@@ -10,18 +10,20 @@ use lib.IntN.{ℤ}
 use lib.ListN.{length}
 use Rattle.cipher.specs.Numbers.{byCode, codeOf}
 use Rattle.checkpoint.specs.Checkpoint.{lengthOf}
-use Rattle.conditions.specs.Result.{Result, refused, accepted, Outcome, outcome, _>>=_, _>>_, refuse_unless_}
+use Rattle.laws.specs.Result.{Result, refused, accepted, Outcome, outcome, _>>=_, _>>_, refuse_unless_}
 use Rattle.conditions.specs.Limit.{limit}
 use Rattle.conditions.specs.Conditions.{setUpCheck, headCheck, cipherCheck, moveCheck, recoverCheck, loadCheck}
 use Rattle.conditions.proofs.Conditions.{head-accepted}
 use Rattle.cipher.proofs.Codes.{code-of}
 use Rattle.engine.specs.declared.Head.{Head}
 use Rattle.engine.specs.Head.{withMark, markAfter}
-use Rattle.engine.specs.Calls.{Engine, engineOf, headReady, Ciphered, Written, Recovered, Loaded, Counted, setUp, cipher, cipherCall, move, moveCall, write, writeCall, recover, recoverCall, load, spent, spentCall}
+use Rattle.volume.specs.Calls.{entriesIn}
+use Rattle.theorems.proofs.Encipher.{enciphered, volume-some}
+use Rattle.engine.specs.Calls.{Engine, engineOf, headReady, Ciphered, Written, Recovered, Loaded, Counted, setUp, cipher, cipherCall, encipherVolume, encipherVolumeCall, move, moveCall, write, writeCall, recover, recoverCall, load, spent, spentCall}
 use Rattle.theorems.specs.Account.{Call, AllGiven, Four, IsFour, Account, empty, holds, engineAfter, accountAfter}
 use Rattle.theorems.specs.Farthest.{largest, farthestAfter}
 use Rattle.theorems.specs.HeadMark.{SameButMark, SameMoved, SameCiphered, SameWritten, SameRecovered, HeadMark}
-use Rattle.theorems.proofs.Results.{no-refusal, accepted-one, after-first, after-line}
+use Rattle.laws.proofs.Results.{no-refusal, accepted-one, after-first, after-line}
 use Rattle.theorems.proofs.Writes.{write-shows}
 use Rattle.theorems.proofs.Agree.{headOf, ReachedIs, agree, agree-four}
 
@@ -128,6 +130,11 @@ module _ (h : Head) (mark : ℕ) where
       then-alike SameCiphered _ _ (λ n. (refl, alike area, refl)) (cipherCheck (headReady h area) (h .position) (length bytes)) _ _ λ c.
       (refl, record { head = refl; area = refl }, refl)
 
+  encipher-as-given : (area volume : List ℕ) → SameCiphered (encipherVolumeCall h area volume) (encipherVolumeCall (withMark h mark) area volume)
+  unfolding encipherVolumeCall encipherVolume cipherCall
+  encipher-as-given area volume =
+      first-alike SameCiphered _ _ (λ n. (refl, alike area, refl)) (entriesIn volume) _ _ (cipher-as-given area volume)
+
   move-as-given : (area : List ℕ) (d : ℤ) → SameMoved (moveCall h area d) (moveCall (withMark h mark) area d)
   unfolding moveCall move
   move-as-given area d =
@@ -161,10 +168,13 @@ head-mark = record {
   move-leaves = move-leaves;
   cipher-raises = cipher-raises;
   no-bytes = no-bytes;
+  encipher-raises = λ h area volume r e.
+      let x = enciphered h area volume r e in cipher-raises h area volume r (volume-some volume (x .entries) (x .is-volume)) (x .ciphers);
   write-leaves = λ h area lent w e. ap (λ (x : Engine). x .head) (write-shows h area lent w e .1 .engine-is);
   recover-leaves = recover-leaves;
   spent-gives = spent-gives;
   cipher-as-given = cipher-as-given;
+  encipher-as-given = encipher-as-given;
   move-as-given = move-as-given;
   write-as-given = write-as-given;
   recover-as-given = recover-as-given;

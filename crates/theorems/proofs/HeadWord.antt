@@ -14,15 +14,16 @@ use Rattle.steps.specs.Steps.{lastOutput, wordAt}
 use Rattle.steps.proofs.Words.{last-taken}
 use Rattle.keystream.specs.Keystream.{tablesNext, ciphered}
 use Rattle.keystream.proofs.Positions.{moved-on}
-use Rattle.conditions.specs.Result.{accepted}
+use Rattle.laws.specs.Result.{accepted}
 use Rattle.conditions.specs.Conditions.{setUpCheck, cipherCheck, moveCheck, loadCheck}
 use Rattle.engine.specs.declared.Head.{Head}
 use Rattle.engine.specs.Head.{headAt, markAfter}
 use Rattle.engine.specs.Calls.{Engine, engineOf, headReady, Ciphered, Loaded, setUp, cipher, move, load}
 use Rattle.theorems.specs.HeadWord.{TrueWord, HeadWord}
-use Rattle.theorems.proofs.Results.{no-refusal, accepted-one, after-line}
+use Rattle.laws.proofs.Results.{no-refusal, accepted-one, after-line}
 use Rattle.theorems.proofs.Conditions.{set-up-shows, word-shows, cipher-shows, move-shows}
-use Rattle.theorems.proofs.Compares.{cipher-compares, move-compares, write-compares, recover-compares}
+use Rattle.theorems.proofs.Encipher.{enciphered}
+use Rattle.theorems.proofs.Compares.{cipher-compares, encipher-compares, move-compares, write-compares, recover-compares}
 
 of-step : (c : Cipher) (s : List ℕ) (i r : ℕ) → 1 ≤ r → r ≤ 4 → wordAt c s (4 * i + r) ≡ output c s i
 of-step c s i r l m = last-taken c s i _ (omega arith)
@@ -76,10 +77,12 @@ head-word = record {
   of-step = of-step;
   set-up-leaves = set-up-leaves;
   cipher-leaves = cipher-leaves;
+  encipher-leaves = λ h area volume r e. cipher-leaves h area volume r (enciphered h area volume r e .ciphers);
   move-leaves = move-leaves;
   load-leaves = load-leaves;
   no-bytes = no-bytes;
   cipher-compares = cipher-compares;
+  encipher-compares = encipher-compares;
   move-compares = move-compares;
   write-compares = write-compares;
   recover-compares = recover-compares;

@@ -5,7 +5,6 @@ pub mod Starred
 pub mod Within
 pub mod Demand1
 pub mod Stream
-pub mod Results
 pub mod Tables
 pub mod Twice
 pub mod Zeros
@@ -14,9 +13,11 @@ pub mod Checkpoints
 pub mod Names
 pub mod Writes
 pub mod Agree
+pub mod Encipher
 pub mod Compares
 pub mod HeadWord
 pub mod HeadMark
+pub mod ShiftVolume
 pub mod Demand3
 pub mod CheckpointLength
 pub mod Refusal12

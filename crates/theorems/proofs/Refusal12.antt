@@ -15,12 +15,12 @@ use Rattle.steps.specs.Steps.{wordAt}
 use Rattle.setup.specs.SetUp.{Undone, none, found}
 use Rattle.checkpoint.specs.Checkpoint.{layout}
 use Rattle.engine.specs.declared.Head.{Head}
-use Rattle.conditions.specs.Result.{refused}
+use Rattle.laws.specs.Result.{refused}
 use Rattle.engine.specs.Head.{headAt}
 use Rattle.conditions.specs.Conditions.{undoAt, foundOr12, recoverCheck, loadCheck}
 use Rattle.engine.specs.Calls.{recover, load}
 use Rattle.theorems.specs.Refusal12.{NoneHave, RecoverNone, LoadNone, Refusal12}
-use Rattle.theorems.proofs.Results.{no-refusal, refused-iff}
+use Rattle.laws.proofs.Results.{no-refusal, refused-iff}
 use Rattle.theorems.proofs.Tables.{undo-finds, found-have}
 use Rattle.theorems.proofs.Zeros.{none-found-at}
 use Rattle.theorems.proofs.Conditions.{refused-only, WordShows, recover-finds, recover-passed, load-finds, load-passed}

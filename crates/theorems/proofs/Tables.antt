@@ -19,7 +19,7 @@ use Rattle.steps.proofs.Moved.{moved-up, moved-down}
 use Rattle.steps.proofs.Inverse.{steps-area, steps-back-area, steps-undone, steps-redone}
 use Rattle.setup.specs.SetUp.{setUp, found}
 use Rattle.setup.proofs.Inverse.{set-up-area, set-up-undone, set-up-redone}
-use Rattle.conditions.specs.Result.{accepted}
+use Rattle.laws.specs.Result.{accepted}
 use Rattle.conditions.specs.Conditions.{ready, readyWithWord, undoAt}
 use Rattle.conditions.proofs.Conditions.{ready-accepted, word-true}
 use Rattle.theorems.specs.Account.{Four, IsFour, tablesOf}

@@ -4,7 +4,7 @@ use mathlib.Core.Bool.{Bool, true, false, cond}
 use mathlib.Core.Option.{Option, none, some}
 use mathlib.Core.List.{List, [], _∷_, List·Memᴰ, List·Memᴰ·head, List·Memᴰ·tail}
 use mathlib.Core.Logic.{inl, inr}
-use Prim.Native.Nat.{ℕ}
+use Prim.Native.Nat.{ℕ, zero, suc}
 use native.Mathlib.Omega.{arith}
 use borrow.Author.Tests.{eq-eqb}
 use lib.Dec.{eqb, leb}
@@ -14,12 +14,14 @@ use Rattle.cipher.specs.Numbers.{byCode, areaLength}
 use Rattle.steps.specs.Steps.{wordAt}
 use Rattle.setup.specs.SetUp as SetUp
 use Rattle.setup.specs.SetUp.{Undone}
-use Rattle.varint.specs.Number.{Reading, is, ended, malformed}
-use Rattle.conditions.specs.Result.{Result, refused, accepted, outcome, _>>=_, _>>_, refuse_unless_, refuse_without_}
+use Rattle.varint.specs.Number.{Reading, is, ended, malformed, readNumber}
+use Rattle.volume.specs.Volume.{Range, inRange, countRange, minutesRange, litresRange, ratioRange, productRange, mostGroups as groups}
+use Rattle.volume.specs.Calls.{numberRead, readValue, readEntry, readEntries, isEmpty, entriesIn}
+use Rattle.laws.specs.Result.{Result, refused, accepted, outcome, _>>=_, _>>_, refuse_unless_, refuse_without_}
 use Rattle.conditions.specs.Limit.{limit}
 use Rattle.conditions.specs.Conditions.{ready, readyWithWord, headCheck, within, foundOr12, positionRead}
 use Rattle.theorems.specs.Demand1.{AcceptedOrRefused}
-use Rattle.theorems.proofs.Results.{no-refusal}
+use Rattle.laws.proofs.Results.{no-refusal}
 
 -- the refusal of a result, if it is one, is one of these numbers
 pub data Within {A : Type 0} (numbers : List ℕ) : Result A → Type 0 where
@@ -89,6 +91,42 @@ module _ {numbers : List ℕ} where
   position-within (is value rest) a b = by-none
   position-within ended a b = by-one a
   position-within malformed a b = by-one b
+
+  -- ── conditions of a volume ──
+
+  number-within : (f : Reading) → List·Memᴰ 16 numbers → List·Memᴰ 14 numbers → Within numbers (numberRead f)
+  number-within (is value rest) a b = by-none
+  number-within ended a b = by-one a
+  number-within malformed a b = by-one b
+
+  module _ (ends : List·Memᴰ 16 numbers) (form : List·Memᴰ 14 numbers) (range : List·Memᴰ 15 numbers) where
+    value-within : (r : Range) (string : List ℕ) → Within numbers (readValue r string)
+    unfolding readValue
+    value-within r string =
+        then-line (numberRead (readNumber groups string)) _ (number-within (readNumber groups string) ends form) λ read.
+        line-unless 15 (inRange r (read .value)) _ range by-none
+
+    entry-within : (string : List ℕ) → Within numbers (readEntry string)
+    unfolding readEntry
+    entry-within string =
+        then-line (readValue minutesRange string) _ (value-within minutesRange string) λ minutes.
+        then-line (readValue litresRange (minutes .rest)) _ (value-within litresRange (minutes .rest)) λ litres.
+        then-line (readValue ratioRange (litres .rest)) _ (value-within ratioRange (litres .rest)) λ ratio.
+        then-line (readValue productRange (ratio .rest)) _ (value-within productRange (ratio .rest)) λ product. by-none
+
+    entries-within : (n : ℕ) (string : List ℕ) → Within numbers (readEntries n string)
+    unfolding readEntries
+    entries-within zero string = by-none
+    entries-within (suc n) string =
+        then-line (readEntry string) _ (entry-within string) λ first.
+        then-line (readEntries n (first .rest)) _ (entries-within n (first .rest)) λ others. by-none
+
+    pub volume-within : (string : List ℕ) → Within numbers (entriesIn string)
+    unfolding entriesIn
+    volume-within string =
+        then-line (readValue countRange string) _ (value-within countRange string) λ count.
+        then-line (readEntries (count .value) (count .rest)) _ (entries-within (count .value) (count .rest)) λ read.
+        line-unless 16 (isEmpty (read .rest)) _ ends by-none
 
 -- ── a number that is not among them is not the refusal ──
 

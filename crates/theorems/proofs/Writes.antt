@@ -9,13 +9,14 @@ use lib.ListN.{length, drop}
 use lib.Seq.{take-append-seam}
 use Rattle.laws.proofs.Lists.{below-or-not}
 use Rattle.cipher.specs.declared.Cipher.{Cipher}
-use Rattle.checkpoint.specs.Checkpoint.{layout, lengthOf, putFirst}
+use Rattle.checkpoint.specs.Checkpoint.{layout, lengthOf}
 use Rattle.checkpoint.proofs.Checkpoint.{layout-length}
-use Rattle.conditions.specs.Result.{refused, accepted}
+use Rattle.laws.specs.Lent.{putFirst}
+use Rattle.laws.specs.Result.{refused, accepted}
 use Rattle.engine.specs.declared.Head.{Head}
 use Rattle.engine.specs.Calls.{engineOf, headReady, Written, write}
 use Rattle.theorems.specs.Demand3.{given}
-use Rattle.theorems.proofs.Results.{no-refusal, accepted-one, after-line, after-unless}
+use Rattle.laws.proofs.Results.{no-refusal, accepted-one, after-line, after-unless}
 use Rattle.theorems.proofs.Conditions.{ReadyShows, word-shows}
 
 -- the layout of head and area is given, and head, area and later bytes stay

@@ -1,4 +1,5 @@
--- Document 01, 'The account kept beside the engine': lists of calls, the account that they feed, and the checkpoint of a four.
+-- Document 01, 'The account kept beside the engine': lists of calls, the account that they feed, and the checkpoint of a four. Document 02 (d) adds the
+-- enciphering of a volume to the calls.
 use mathlib.Core.Path.{_≡_}
 use mathlib.Core.List.{List, [], _∷_}
 use Prim.Native.Nat.{ℕ, _+_, _≤_}
@@ -10,11 +11,12 @@ use Rattle.cipher.specs.Numbers.{codeOf}
 use Rattle.keys.specs.Key.{Pair}
 use Rattle.steps.specs.Steps.{steps, stepsAt}
 use Rattle.setup.specs.SetUp as SetUp
-use Rattle.conditions.specs.Result.{Result, refused, accepted}
+use Rattle.laws.specs.Result.{Result, refused, accepted, _>>_}
 use Rattle.conditions.specs.Limit.{limit}
 use Rattle.engine.specs.Head.{freshHead}
 use Rattle.conditions.specs.Conditions.{setUpCheck, ready, cipherCheck, moveCheck, loadCheck}
-use Rattle.engine.specs.Calls.{Engine, engineOf, engineAt, setUpCall, cipherCall, moveCall, writeCall, recoverCall, loadCall, spentCall}
+use Rattle.engine.specs.Calls.{Engine, engineOf, engineAt, setUpCall, cipherCall, encipherVolumeCall, moveCall, writeCall, recoverCall, loadCall, spentCall}
+use Rattle.volume.specs.Calls.{entriesIn}
 use Rattle.checkpoint.specs.Checkpoint.{layout}
 
 -- ── lists of calls ──
@@ -23,6 +25,7 @@ use Rattle.checkpoint.specs.Checkpoint.{layout}
 pub data Call : Type 0 where
   call-set-up : (code : ℕ) (key iv : List ℕ) → Call
   call-cipher : (bytes : List ℕ) → Call
+  call-encipher-volume : (volume : List ℕ) → Call
   call-move : (distance : ℤ) → Call
   call-write : (lent : List ℕ) → Call
   call-recover : (key iv : List ℕ) → Call
@@ -34,6 +37,7 @@ abbrev pub Given : Call → Type 0
 Given (call-set-up code key iv) = AllBytes key × AllBytes iv
 Given (call-load string) = AllBytes string
 Given (call-cipher bytes) = Unit {0}
+Given (call-encipher-volume volume) = Unit {0}
 Given (call-move distance) = Unit {0}
 Given (call-write lent) = Unit {0}
 Given (call-recover key iv) = Unit {0}
@@ -47,6 +51,7 @@ AllGiven (call ∷ calls) = Given call × AllGiven calls
 unfoldable pub called : Engine → Call → Engine
 called e (call-set-up code key iv) = setUpCall (e .head) code key iv (e .area) .value
 called e (call-cipher bytes) = cipherCall (e .head) (e .area) bytes .value .engine
+called e (call-encipher-volume volume) = encipherVolumeCall (e .head) (e .area) volume .value .engine
 called e (call-move distance) = moveCall (e .head) (e .area) distance .value
 called e (call-write lent) = writeCall (e .head) (e .area) lent .value .engine
 called e (call-recover key iv) = recoverCall (e .head) (e .area) key iv .value .engine
@@ -57,6 +62,7 @@ called e call-spent = engineOf (spentCall (e .head) .value .head) (e .area)
 unfoldable pub answered : Engine → Call → ℕ
 answered e (call-set-up code key iv) = setUpCall (e .head) code key iv (e .area) .refusal
 answered e (call-cipher bytes) = cipherCall (e .head) (e .area) bytes .refusal
+answered e (call-encipher-volume volume) = encipherVolumeCall (e .head) (e .area) volume .refusal
 answered e (call-move distance) = moveCall (e .head) (e .area) distance .refusal
 answered e (call-write lent) = writeCall (e .head) (e .area) lent .refusal
 answered e (call-recover key iv) = recoverCall (e .head) (e .area) key iv .refusal
@@ -120,6 +126,10 @@ feed size a (call-set-up code key iv) =
 feed size a (call-cipher bytes) =
     unless-refused a (cipherCheck (accountReady size a) (accountPosition a) (length bytes))
     (λ c. at a (accountPosition a + length bytes))
+-- document 02 (d): 'a cipher call in the account', whose conditions are those of reading, 8 excepted, and then those of a cipher call
+feed size a (call-encipher-volume volume) =
+    unless-refused a (entriesIn volume >> cipherCheck (accountReady size a) (accountPosition a) (length volume))
+    (λ c. at a (accountPosition a + length volume))
 feed size a (call-move distance) =
     unless-refused a (moveCheck (accountReady size a) (accountPosition a) distance) (λ m. at a (m .end))
 -- 'Load makes it the four whose checkpoint the string is': load's conditions find that four by undoing. `feed-load` of Demand3 says that it is the

@@ -8,7 +8,7 @@ use Rattle.cipher.specs.declared.Cipher.{Cipher}
 use Rattle.cipher.specs.Numbers.{codeOf}
 use Rattle.varint.specs.Number.{number}
 use Rattle.checkpoint.specs.Checkpoint.{lengthOf, longest}
-use Rattle.conditions.specs.Result.{refused, accepted}
+use Rattle.laws.specs.Result.{refused, accepted}
 use Rattle.conditions.specs.Limit.{limit}
 use Rattle.engine.specs.declared.Head.{Head}
 use Rattle.engine.specs.Head.{headAt}

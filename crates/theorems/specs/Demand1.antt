@@ -6,10 +6,11 @@ use mathlib.Core.Logic.{_⊎_}
 use Prim.Native.Nat.{ℕ}
 use lib.IntN.{ℤ}
 use lib.ListN.{replicate}
-use Rattle.conditions.specs.Result.{Result, refused, accepted, Outcome}
+use Rattle.volume.specs.Calls.{readVolume, readVolumeCall, writeVolume, writeVolumeCall}
+use Rattle.laws.specs.Result.{Result, refused, accepted, Outcome}
 use Rattle.engine.specs.declared.Head.{Head}
-use Rattle.engine.specs.Calls.{engineOf, setUp, cipher, move, write, checkpointLength, recover, load, spent}
-use Rattle.engine.specs.Calls.{setUpCall, cipherCall, moveCall, writeCall, checkpointLengthCall, recoverCall, loadCall, spentCall}
+use Rattle.engine.specs.Calls.{engineOf, setUp, cipher, encipherVolume, move, write, checkpointLength, recover, load, spent}
+use Rattle.engine.specs.Calls.{setUpCall, cipherCall, encipherVolumeCall, moveCall, writeCall, checkpointLengthCall, recoverCall, loadCall, spentCall}
 
 module _ {A : Type 0} where
   -- the call is accepted: its refusal is 0, and what it leaves is what its result gives
@@ -38,6 +39,10 @@ pub record Demand1 : Type 0 where
       (h : Head) (area bytes : List ℕ)
       → AcceptedOrRefused (1 ∷ 4 ∷ 5 ∷ 13 ∷ 6 ∷ []) (record { engine = engineOf h area; bytes = bytes })
       (cipher h area bytes) (cipherCall h area bytes)
+  pub of-encipher-volume :
+      (h : Head) (area volume : List ℕ)
+      → AcceptedOrRefused (16 ∷ 14 ∷ 15 ∷ 16 ∷ 1 ∷ 4 ∷ 5 ∷ 13 ∷ 6 ∷ []) (record { engine = engineOf h area; bytes = volume })
+      (encipherVolume h area volume) (encipherVolumeCall h area volume)
   pub of-move :
       (h : Head) (area : List ℕ) (distance : ℤ)
       → AcceptedOrRefused (1 ∷ 4 ∷ 5 ∷ 13 ∷ 7 ∷ 6 ∷ []) (engineOf h area) (move h area distance) (moveCall h area distance)
@@ -56,3 +61,9 @@ pub record Demand1 : Type 0 where
       → AcceptedOrRefused (9 ∷ 1 ∷ 4 ∷ 10 ∷ 9 ∷ 10 ∷ 5 ∷ 11 ∷ 12 ∷ [])
       (record { engine = engineOf h area; key = replicate 8 0; iv = replicate 8 0 }) (load string area) (loadCall h string area)
   pub of-spent : (h : Head) → AcceptedOrRefused (1 ∷ 5 ∷ []) (record { head = h; count = 0 }) (spent h) (spentCall h)
+  pub of-write-volume :
+      (list lent : List ℕ)
+      → AcceptedOrRefused (16 ∷ 15 ∷ 15 ∷ 8 ∷ []) (record { length = 0; lent = lent }) (writeVolume list lent) (writeVolumeCall list lent)
+  pub of-read-volume :
+      (string list : List ℕ)
+      → AcceptedOrRefused (16 ∷ 14 ∷ 15 ∷ 16 ∷ 8 ∷ []) (record { count = 0; list = list }) (readVolume string list) (readVolumeCall string list)

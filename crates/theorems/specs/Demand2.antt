@@ -14,7 +14,7 @@ use Rattle.keys.specs.Key.{Pair}
 use Rattle.keystream.specs.Keystream.{keystream}
 use Rattle.setup.specs.SetUp as SetUp
 use Rattle.engine.specs.declared.Head.{Head}
-use Rattle.conditions.specs.Result.{accepted}
+use Rattle.laws.specs.Result.{accepted}
 use Rattle.conditions.specs.Limit.{limit}
 use Rattle.engine.specs.Head.{freshHead, withMark}
 use Rattle.engine.specs.Calls.{Engine, engineOf, Ciphered, setUp, cipher, move, recover, spent}

@@ -6,7 +6,7 @@ use Prim.Native.Nat.{ℕ, _≤_}
 use lib.ListN.{length, take, drop}
 use Rattle.word.specs.Bytes.{AllBytes}
 use Rattle.cipher.specs.Numbers.{codeOf, areaLength}
-use Rattle.conditions.specs.Result.{Result, accepted}
+use Rattle.laws.specs.Result.{Result, accepted}
 use Rattle.engine.specs.Calls.{Written, Loaded, eightWords, write, load}
 use Rattle.checkpoint.specs.Checkpoint.{lengthOf, longest}
 use Rattle.theorems.specs.Account.{Call, AllGiven, answered, Four, IsFour, Account, holds, feed, call-load, engineAfter, accountAfter, Checkpoint}

@@ -3,8 +3,10 @@
 use mathlib.Core.List.{List, [], _∷_}
 use Prim.Native.Nat.{ℕ, _+_, max}
 use lib.ListN.{length}
+use Rattle.laws.specs.Result.{_>>_}
+use Rattle.volume.specs.Calls.{entriesIn}
 use Rattle.conditions.specs.Conditions.{setUpCheck, cipherCheck, loadCheck}
-use Rattle.theorems.specs.Account.{Call, call-set-up, call-cipher, call-move, call-write, call-recover, call-load, call-spent, Account, empty, accountPosition, accountReady, unless-refused, feed}
+use Rattle.theorems.specs.Account.{Call, call-set-up, call-cipher, call-encipher-volume, call-move, call-write, call-recover, call-load, call-spent, Account, empty, accountPosition, accountReady, unless-refused, feed}
 
 -- a cipher call of one byte or more reaches its end, and one of no bytes reaches nothing
 abbrev pub withEnd : (bytes : List ℕ) (end : ℕ) → List ℕ → List ℕ
@@ -20,6 +22,10 @@ reachedBy size a reached (call-load string) = unless-refused reached (loadCheck 
 reachedBy size a reached (call-cipher bytes) =
     unless-refused reached (cipherCheck (accountReady size a) (accountPosition a) (length bytes))
     (λ c. withEnd bytes (accountPosition a + length bytes) reached)
+-- document 02 (d): 'a cipher call .. for the mark'
+reachedBy size a reached (call-encipher-volume volume) =
+    unless-refused reached (entriesIn volume >> cipherCheck (accountReady size a) (accountPosition a) (length volume))
+    (λ c. withEnd volume (accountPosition a + length volume) reached)
 reachedBy size a reached (call-move distance) = reached
 reachedBy size a reached (call-write lent) = reached
 reachedBy size a reached (call-recover key iv) = reached

@@ -5,11 +5,11 @@ use mathlib.Core.Logic.{_↔_}
 use Prim.Native.Nat.{ℕ, _+_, _≤_, max}
 use lib.IntN.{ℤ}
 use lib.ListN.{length}
-use Rattle.conditions.specs.Result.{Outcome, accepted}
+use Rattle.laws.specs.Result.{Outcome, accepted}
 use Rattle.conditions.specs.Limit.{limit}
 use Rattle.engine.specs.declared.Head.{Head}
 use Rattle.engine.specs.Head.{withMark}
-use Rattle.engine.specs.Calls.{Engine, Ciphered, Written, Recovered, Loaded, Counted, setUp, cipher, cipherCall, move, moveCall, write, writeCall, recover, recoverCall, load, spent, spentCall}
+use Rattle.engine.specs.Calls.{Engine, Ciphered, Written, Recovered, Loaded, Counted, setUp, cipher, cipherCall, encipherVolume, encipherVolumeCall, move, moveCall, write, writeCall, recover, recoverCall, load, spent, spentCall}
 use Rattle.theorems.specs.Account.{Call, AllGiven, Four, holds, engineAfter, accountAfter}
 use Rattle.theorems.specs.Farthest.{farthestAfter}
 
@@ -52,6 +52,10 @@ pub record HeadMark : Type 0 where
       (h : Head) (area bytes : List ℕ) (r : Ciphered) → 1 ≤ length bytes → cipher h area bytes ≡ accepted r
       → r .engine .head .mark ≡ max (h .mark) (h .position + length bytes)
   pub no-bytes : (h : Head) (area : List ℕ) (r : Ciphered) → cipher h area [] ≡ accepted r → r .engine .head .mark ≡ h .mark
+  -- document 02 (d): the enciphering of a volume is 'a cipher call .. for the mark'; a volume has a byte at least
+  pub encipher-raises :
+      (h : Head) (area volume : List ℕ) (r : Ciphered) → encipherVolume h area volume ≡ accepted r
+      → r .engine .head .mark ≡ max (h .mark) (h .position + length volume)
   -- write and recover leave the whole head, and so does spent: `spent-gives`
   pub write-leaves : (h : Head) (area lent : List ℕ) (w : Written) → write h area lent ≡ accepted w → w .engine .head ≡ h
   pub recover-leaves : (h : Head) (area key iv : List ℕ) (r : Recovered) → recover h area key iv ≡ accepted r → r .engine .head ≡ h
@@ -61,6 +65,8 @@ pub record HeadMark : Type 0 where
   -- nothing of the head.
   pub cipher-as-given :
       (h : Head) (mark : ℕ) (area bytes : List ℕ) → SameCiphered (cipherCall h area bytes) (cipherCall (withMark h mark) area bytes)
+  pub encipher-as-given :
+      (h : Head) (mark : ℕ) (area volume : List ℕ) → SameCiphered (encipherVolumeCall h area volume) (encipherVolumeCall (withMark h mark) area volume)
   pub move-as-given : (h : Head) (mark : ℕ) (area : List ℕ) (d : ℤ) → SameMoved (moveCall h area d) (moveCall (withMark h mark) area d)
   pub write-as-given : (h : Head) (mark : ℕ) (area lent : List ℕ) → SameWritten (writeCall h area lent) (writeCall (withMark h mark) area lent)
   pub recover-as-given :

@@ -10,10 +10,12 @@ use Rattle.cipher.specs.declared.Cipher.{Cipher}
 use Rattle.cipher.specs.Numbers.{codeOf}
 use Rattle.tables.specs.Step.{output}
 use Rattle.steps.specs.Steps.{wordAt}
-use Rattle.conditions.specs.Result.{Result, refused, accepted}
+use Rattle.volume.specs.declared.Entry.{Entry}
+use Rattle.volume.specs.Calls.{entriesIn}
+use Rattle.laws.specs.Result.{Result, refused, accepted}
 use Rattle.conditions.specs.Conditions.{ready}
 use Rattle.engine.specs.declared.Head.{Head}
-use Rattle.engine.specs.Calls.{Engine, engineOf, Ciphered, Loaded, setUp, cipher, move, write, recover, load}
+use Rattle.engine.specs.Calls.{Engine, engineOf, Ciphered, Loaded, setUp, cipher, encipherVolume, move, write, recover, load}
 
 -- the head's word is the one that the area has at the head's position, for the cipher of the head's code
 pub record TrueWord (e : Engine) : Type 0 where
@@ -35,6 +37,7 @@ pub record HeadWord : Type 0 where
   -- 'every call that changes the state keeps it true', whatever the head was
   pub set-up-leaves : (code : ℕ) (key iv area : List ℕ) (e : Engine) → setUp code key iv area ≡ accepted e → TrueWord e
   pub cipher-leaves : (h : Head) (area bytes : List ℕ) (r : Ciphered) → cipher h area bytes ≡ accepted r → TrueWord (r .engine)
+  pub encipher-leaves : (h : Head) (area volume : List ℕ) (r : Ciphered) → encipherVolume h area volume ≡ accepted r → TrueWord (r .engine)
   pub move-leaves : (h : Head) (area : List ℕ) (d : ℤ) (e : Engine) → move h area d ≡ accepted e → TrueWord e
   -- 'A load works it out afresh'
   pub load-leaves : (string area : List ℕ) (o : Loaded) → load string area ≡ accepted o → TrueWord (o .engine)
@@ -42,6 +45,9 @@ pub record HeadWord : Type 0 where
   pub no-bytes : (h : Head) (area : List ℕ) (r : Ciphered) → cipher h area [] ≡ accepted r → r ≡ record { engine = engineOf h area; bytes = [] }
   -- 'It refuses such a head with 13, in the calls that take an area, straight after 5'
   pub cipher-compares : (h : Head) (area bytes : List ℕ) → Compares h area (cipher h area bytes)
+  -- the enciphering of a volume compares once the volume is read (document 02 (d))
+  pub encipher-compares :
+      (h : Head) (area volume : List ℕ) (entries : List Entry) → entriesIn volume ≡ accepted entries → Compares h area (encipherVolume h area volume)
   pub move-compares : (h : Head) (area : List ℕ) (d : ℤ) → Compares h area (move h area d)
   pub write-compares : (h : Head) (area lent : List ℕ) → Compares h area (write h area lent)
   pub recover-compares : (h : Head) (area key iv : List ℕ) → Compares h area (recover h area key iv)

@@ -12,3 +12,4 @@ pub mod Refusal12
 pub mod CheckpointLength
 pub mod HeadWord
 pub mod HeadMark
+pub mod ShiftVolume

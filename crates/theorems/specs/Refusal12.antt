@@ -13,7 +13,7 @@ use Rattle.steps.specs.Steps.{steps, stepsAt, wordAt}
 use Rattle.setup.specs.SetUp as SetUp
 use Rattle.checkpoint.specs.Checkpoint.{layout}
 use Rattle.engine.specs.declared.Head.{Head}
-use Rattle.conditions.specs.Result.{refused}
+use Rattle.laws.specs.Result.{refused}
 use Rattle.conditions.specs.Limit.{limit}
 use Rattle.engine.specs.Head.{headAt}
 use Rattle.engine.specs.Calls.{recover, load}

@@ -19,6 +19,24 @@ pub fn write_number(n: u64, out: &mut [u8], at: usize) -> usize
     write_number(n / 128, out, at + 1)
 }
 
+// Writes n as `write_number` does. One or two groups are written here, without a call, since most numbers of a volume have no more.
+pub fn put_number(n: u64, out: &mut [u8], at: usize) -> usize
+    requires { ⌜ at + length (Number.number n) ≤ length (now out) ⌝ }
+    ensures { λ r. ⌜ (r ≡ at + length (Number.number n)) × (now (out .exit) ≡ sets (now (out .entry)) at (Number.number n)) ⌝ }
+{
+    if n < 128 {
+        out[at] = n as u8;
+        return at + 1;
+    }
+    out[at] = (n % 128 + 128) as u8;
+    let rest = n / 128;
+    if rest < 128 {
+        out[at + 1] = rest as u8;
+        return at + 2;
+    }
+    write_number(rest, out, at + 1)
+}
+
 // How many groups n has.
 pub fn count_groups(n: u64) -> usize
     ensures { λ r. ⌜ (r ≡ length (Number.number n)) × (r ≤ 10) ⌝ }
@@ -36,46 +54,37 @@ pub enum Read {
     Malformed,
 }
 
-// The groups from place `at` on, at most `most` of them, the last of which is not below `least`.
-fn read_groups(string: &[u8], at: usize, most: u32, least: u8) -> Read
-    requires { ⌜ (at ≤ length (now string)) × (most ≤ 9) × (least ≤ 1) ⌝ }
-    ensures { λ r. ⌜
-        (readingOf (now (string .entry)) r ≡ Number.readGroups most least (drop at (now (string .entry))))
-        × nextWithin at (length (now (string .entry))) r ⌝ }
-{
-    if most == 0 {
-        return Read::Malformed; // also where the string ends here
-    }
-    if at == string.len() {
-        return Read::Ended;
-    }
-    let b = string[at];
-    if b < 128 {
-        if b < least {
-            return Read::Malformed;
-        }
-        return Read::Number {
-            value: b as u64,
-            next: at + 1,
-        };
-    }
-    let rest = read_groups(string, at + 1, most - 1, 1);
-    match rest {
-        Read::Number { value, next } => Read::Number {
-            value: (b as u64) - 128 + 128 * value,
-            next: next,
-        },
-        Read::Ended => Read::Ended,
-        Read::Malformed => Read::Malformed,
-    }
-}
-
-// The number from place `at` on, of at most `most` groups.
+// The number from place `at` on, of at most `most` groups: read in a loop, since it is read thousands of times in a volume.
 pub fn read_number(string: &[u8], at: usize, most: u32) -> Read
     requires { ⌜ (at ≤ length (now string)) × (most ≤ 9) ⌝ }
     ensures { λ r. ⌜
         (readingOf (now (string .entry)) r ≡ Number.readNumber most (drop at (now (string .entry))))
         × nextWithin at (length (now (string .entry))) r ⌝ }
 {
-    read_groups(string, at, most, 0)
+    let mut value: u64 = 0;
+    let mut weight: u64 = 1;
+    let mut least: u8 = 0;
+    let mut next = at;
+    let mut k = 0;
+    while k < most {
+        if next == string.len() {
+            return Read::Ended;
+        }
+        let b = string[next];
+        if b < 128 {
+            if b < least {
+                return Read::Malformed;
+            }
+            return Read::Number {
+                value: value + weight * (b as u64),
+                next: next + 1,
+            };
+        }
+        value = value + weight * ((b as u64) - 128);
+        weight = 128 * weight;
+        least = 1;
+        next += 1;
+        k += 1;
+    }
+    Read::Malformed // also where the string ends here
 }

@@ -12,7 +12,7 @@ use Rattle.cipher.specs.Numbers.{byCode}
 use Rattle.varint.specs.Number.{readNumber}
 use Rattle.checkpoint.specs.Checkpoint.{mostGroups}
 use Rattle.conditions.specs.Conditions.{positionRead}
-use Rattle.conditions.proofs.Checks.{is-refused, is-accepted}
+use Rattle.laws.proofs.Results.{is-refused, is-accepted}
 use Rattle.conditions.proofs.Beginnings.{begins-empty, begins-unknown, begins-other-size, begins-no-position, begins-past-limit, begins-other-length, begins, positionIn, position-is}
 use Rattle.reader.proofs.Positions.{position-within}
 use Rattle.conditions.proofs.load_check.Statement.{statement}

@@ -3,7 +3,8 @@ use mathlib.Core.Path.{sym, _∙_}
 use native.Mathlib.Omega.{arith}
 use borrow.Author.Needs.{needs}
 use Rattle.conditions.proofs.Conditions.{word-not-ready, word-false, word-true}
-use Rattle.conditions.proofs.Checks.{is-refused, is-accepted, refused-word, passed-word}
+use Rattle.laws.proofs.Results.{is-refused, is-accepted}
+use Rattle.conditions.proofs.Checks.{refused-word, passed-word}
 use Rattle.conditions.proofs.ready_with_word.Statement.{statement}
 use Rattle.conditions.proofs.ready_with_word.Tie as tie
 

@@ -1,6 +1,6 @@
 -- `hc_cipher` meets its contract, by a walk of its MIR, in the steps that Wrapper.antt names.
 -- Assumes nothing.
-use Rattle.device.proofs.Wrapper.{Form, others, stayed, start, walks-from, opens-head, asks, closes-head, ends, proved, refl, [], _∷_, URA, named, w64, vint, SProp, emp, id⊢, Memory, Routine, Heap, Calls, Loops, WpFn, Atoms, Fun, givenOf, Given, _$_, _∵_, !, qed, by, move, look, look-raw, init, store-raw, forget, stop, hop, fld, from, load, addr, of-opd, and-then, no-more, assigns, land, returns, enter, alloc1, alloc0, params1, pass1, pass0, free1, free0, agg, whole, sub, look-in, FmC, uint-makes, u8, u32, u64, slice-vals, mut-slice-tells, atExit, tripleOf, Triple, Walks}
+use Rattle.wrapper.proofs.Wrapper.{Form, others, stayed, start, walks-from, opens-head, asks, closes-head, ends, proved, refl, [], _∷_, URA, named, w64, vint, SProp, emp, id⊢, Memory, Routine, Heap, Calls, Loops, WpFn, Atoms, Fun, givenOf, Given, _$_, _∵_, !, qed, by, move, look, look-raw, init, store-raw, forget, stop, hop, fld, from, load, addr, of-opd, and-then, no-more, assigns, land, returns, enter, alloc1, alloc0, params1, pass1, pass0, free1, free0, agg, whole, sub, look-in, FmC, uint-makes, u8, u32, u64, slice-vals, mut-slice-tells, atExit, tripleOf, Triple, Walks}
 use denote.Struct.Laws as LL
 use Rattle.engine.proofs.Head as T
 use Rattle.engine.proofs.Head.Laws as T′

@@ -1,6 +1,6 @@
 -- `checkpoint_length` meets its contract: the length of a checkpoint where the conditions of a head alone hold. Assumes nothing.
 use borrow.Author.Needs.{needs}
-use Rattle.conditions.proofs.Checks.{is-refused, is-accepted}
+use Rattle.laws.proofs.Results.{is-refused, is-accepted}
 use Rattle.engine.proofs.Calls.{length-refused, length-told}
 use Rattle.engine.proofs.checkpoint_length.Statement.{statement}
 use Rattle.engine.proofs.checkpoint_length.Tie as tie

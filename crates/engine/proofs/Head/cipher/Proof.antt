@@ -1,7 +1,7 @@
 -- `Head::cipher` meets its contract: nothing is done where a condition refuses; else bytes and tables are those of the keystream. Assumes nothing.
 use native.Mathlib.Omega.{arith}
 use borrow.Author.Needs.{needs}
-use Rattle.conditions.proofs.Checks.{is-refused, is-accepted}
+use Rattle.laws.proofs.Results.{is-refused, is-accepted}
 use Rattle.engine.proofs.Calls.{cipher-refused, cipher-past, cipher-done}
 use Rattle.engine.proofs.Head.cipher.Statement.{statement}
 use Rattle.engine.proofs.Head.cipher.Tie as tie

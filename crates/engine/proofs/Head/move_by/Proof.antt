@@ -6,7 +6,7 @@ use mir.Syntax.{w64}
 use mir.ValLaws.{toZ-ofZ}
 use Rattle.conditions.specs.Conditions.{endOf}
 use Rattle.conditions.specs.Checks.{endIs}
-use Rattle.conditions.proofs.Checks.{is-refused, is-accepted}
+use Rattle.laws.proofs.Results.{is-refused, is-accepted}
 use Rattle.engine.proofs.Calls.{move-refused, move-unreached, move-done}
 use Rattle.engine.proofs.Head.move_by.Statement.{statement}
 use Rattle.engine.proofs.Head.move_by.Tie as tie

@@ -4,7 +4,7 @@ use native.Mathlib.Omega.{arith}
 use borrow.Author.Needs.{needs}
 use borrow.Author.Tests.{not-true, not-false}
 use Rattle.keys.specs.Key.{keyOf, ivOf}
-use Rattle.conditions.proofs.Checks.{is-refused, is-accepted}
+use Rattle.laws.proofs.Results.{is-refused, is-accepted}
 use Rattle.engine.proofs.Calls.{recover-refused, recover-key, recover-iv, recover-none, recover-done}
 use Rattle.engine.proofs.Head.recover.Statement.{statement}
 use Rattle.engine.proofs.Head.recover.Tie as tie

@@ -1,6 +1,6 @@
 -- `Head::set_up` meets its contract: nothing is done where a condition refuses, and the area is set up where none does. Assumes nothing.
 use borrow.Author.Needs.{needs}
-use Rattle.conditions.proofs.Checks.{is-refused, is-accepted}
+use Rattle.laws.proofs.Results.{is-refused, is-accepted}
 use Rattle.engine.proofs.Calls.{set-up-refused, set-up-done}
 use Rattle.engine.proofs.Head.set_up.Statement.{statement}
 use Rattle.engine.proofs.Head.set_up.Tie as tie

@@ -1,6 +1,6 @@
 -- `Head::spent` meets its contract: its tests are the conditions of a head alone. Assumes nothing.
 use borrow.Author.Needs.{needs}
-use Rattle.conditions.proofs.Checks.{is-refused, is-accepted}
+use Rattle.laws.proofs.Results.{is-refused, is-accepted}
 use Rattle.engine.proofs.Calls.{spent-refused, spent-done}
 use Rattle.engine.proofs.Head.spent.Statement.{statement}
 use Rattle.engine.proofs.Head.spent.Tie as tie

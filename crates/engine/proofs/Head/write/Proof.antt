@@ -1,7 +1,7 @@
 -- `Head::write` meets its contract: the checkpoint is put where every condition holds, and only there. Assumes nothing.
 use native.Mathlib.Omega.{arith}
 use borrow.Author.Needs.{needs}
-use Rattle.conditions.proofs.Checks.{is-refused, is-accepted}
+use Rattle.laws.proofs.Results.{is-refused, is-accepted}
 use Rattle.engine.proofs.Calls.{write-refused, write-small, write-done}
 use Rattle.engine.proofs.Head.write.Statement.{statement}
 use Rattle.engine.proofs.Head.write.Tie as tie

@@ -1,8 +1,9 @@
 -- What a call answers: the number of its refusal, or what an accepted call gives. A `do` block tries its lines in order, and the first
 -- refusal is the answer.
-use mathlib.Core.Bool.{Bool, true, false}
+use mathlib.Core.Bool.{Bool, true, false, cond}
 use mathlib.Core.Option.{Option, none, some}
 use Prim.Native.Nat.{ℕ}
+use lib.Dec.{eqb}
 
 pub data Result (A : Type 0) : Type 0 where
   refused : ℕ → Result A
@@ -38,3 +39,7 @@ pub record Outcome (A : Type 0) : Type 0 where
 abbrev pub outcome : {A : Type 0} → A → Result A → Outcome A
 outcome old (refused n) = record { refusal = n; value = old }
 outcome old (accepted new) = record { refusal = 0; value = new }
+
+-- a refusal number and a value, where 0 means accepted: how a struct of the code is a result
+abbrev pub resultOf : {A : Type 0} → ℕ → A → Result A
+resultOf n a = cond (eqb n 0) (accepted a) (refused n)

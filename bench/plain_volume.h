@@ -1,0 +1,17 @@
+/* The shift volume in plain C, written from request (d) of document 02. */
+#ifndef PLAIN_VOLUME_H
+#define PLAIN_VOLUME_H
+
+#include <stddef.h>
+#include <stdint.h>
+
+/* The refusal number, 0 where the call is accepted, and then the length or the count; a refused call changes nothing. */
+struct plain_answer {
+    uint64_t refusal;
+    uint64_t value;
+};
+
+struct plain_answer plain_write_volume(const uint32_t *entries, size_t numbers, uint8_t *lent, size_t lent_bytes);
+struct plain_answer plain_read_volume(const uint8_t *volume, size_t volume_bytes, uint32_t *entries, size_t numbers);
+
+#endif

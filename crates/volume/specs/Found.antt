@@ -1,0 +1,84 @@
+-- What the structs mean that the code passes on while it reads or writes a volume. Only contracts below the calls cite it.
+use mathlib.Core.Path.{_≡_}
+use mathlib.Core.Bool.{cond}
+use mathlib.Core.List.{List}
+use Prim.Native.Nat.{ℕ, _+_, _*_, _≤_}
+use lib.ListN.{length, getD, drop}
+use Rattle.laws.specs.Lent.{putFirst}
+use Rattle.laws.specs.Result.{Result, accepted, resultOf, _>>=_, _>>_, refuse_unless_}
+use Rattle.volume.specs.declared.Entry.{Entry}
+use Rattle.volume.specs.declared.ValueFound.{ValueFound}
+use Rattle.volume.specs.declared.PlaceFound.{PlaceFound}
+use Rattle.volume.specs.declared.NumberFound.{NumberFound}
+use Rattle.volume.specs.declared.EntryFound.{EntryFound}
+use Rattle.volume.specs.declared.CountFound.{CountFound}
+use Rattle.volume.specs.Volume.{Range, inRange, countRange, entriesInRange, entriesString, numbersOf}
+use Rattle.volume.specs.Calls.{ValueRead, EntryRead, EntriesRead, readValue, readEntry, readEntries, isEmpty, entriesIn}
+
+-- a value that was found in a string, or the refusal; the place after it stands for the bytes from there on
+abbrev pub valueIs : List ℕ → ValueFound → Result ValueRead
+valueIs string r = resultOf (r .refusal) (record { value = r .value; rest = drop (r .next) string })
+
+-- the place after an entry that was found in a string, or the refusal
+abbrev pub placeIs : List ℕ → PlaceFound → Result (List ℕ)
+placeIs string r = resultOf (r .refusal) (drop (r .next) string)
+
+-- what follows the entry at the start of a string
+unfoldable pub afterEntry : (string : List ℕ) → Result (List ℕ)
+afterEntry string = do
+  read ← readEntry string
+  accepted (read .rest)
+
+-- a number or an entry from a place on, where there is one that is in its range
+abbrev pub NumberThere : (string : List ℕ) (at : ℕ) → NumberFound → Type 0
+NumberThere string at r =
+    (range : Range) (found : ValueRead) → readValue range (drop at string) ≡ accepted found
+    → found ≡ record { value = r .value; rest = drop (r .next) string }
+
+abbrev pub EntryThere : (string : List ℕ) (at : ℕ) → EntryFound → Type 0
+EntryThere string at r =
+    (found : EntryRead) → readEntry (drop at string) ≡ accepted found → found ≡ record { entry = r .entry; rest = drop (r .next) string }
+
+-- a number that was read, where it is in its range
+unfoldable pub ranged : (value next : ℕ) → Range → ValueFound
+ranged value next range =
+    cond (inRange range value) (record { refusal = 0; value = value; next = next }) (record { refusal = 15; value = 0; next = 0 })
+
+-- n entries and nothing after them, or the refusal
+unfoldable pub entriesOnly : (n : ℕ) (string : List ℕ) → Result (Unit {0})
+entriesOnly n string = do
+  read ← readEntries n string
+  refuse 16 unless isEmpty (read .rest)
+
+-- how many entries a volume has, or its refusal
+unfoldable pub countIn : (string : List ℕ) → Result ℕ
+countIn string = do
+  entries ← entriesIn string
+  accepted (length entries)
+
+-- the count of a volume's entries and the place where they begin, or the refusal
+pub record CountIs (string : List ℕ) (r : CountFound) : Type 0 where
+  pub count-is : resultOf (r .refusal) (r .count) ≡ countIn string
+  pub at-most : r .count ≤ 2000
+  pub within : r .first ≤ length string
+  pub begins : r .refusal ≡ 0 → readValue countRange string ≡ accepted (record { value = r .count; rest = drop (r .first) string })
+
+-- where n entries begin the string, the list has their numbers at its start, and later elements as before
+abbrev pub Stored : (n : ℕ) (string before after : List ℕ) → Type 0
+Stored n string before after = (found : EntriesRead) → readEntries n string ≡ accepted found → after ≡ putFirst (numbersOf (found .entries)) before
+
+-- entry k of a list of numbers
+abbrev pub entryAt : List ℕ → ℕ → Entry
+entryAt list k =
+    record {
+      minutes = getD list (4 * k) 0;
+      litres = getD list (4 * k + 1) 0;
+      ratio = getD list (4 * k + 2) 0;
+      product = getD list (4 * k + 3) 0;
+    }
+
+-- how many bytes entries take. 15: one of their numbers is out of its range.
+unfoldable pub entriesLength : List Entry → Result ℕ
+entriesLength entries = do
+  refuse 15 unless entriesInRange entries
+  accepted (length (entriesString entries))

@@ -1,0 +1,4 @@
+pub mod Volume
+pub mod Calls
+pub mod Found
+pub mod Answers
