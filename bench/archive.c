@@ -1,4 +1,4 @@
-/* The archive libdevice.a, called as hullerbamboo.h says; COLUMN and TITLE tell apart the archive and an earlier one. It has to compile against the
+/* The archive, called as hullerbamboo.h says; COLUMN and TITLE tell apart the archive and an earlier one. It has to compile against the
  * headers of both, in which codes and refusals may have different types. */
 #include "hullerbamboo.h"
 #include "implementation.h"

@@ -17,7 +17,8 @@ struct call {
 };
 
 static struct call set_up = {"hc_set_up", 0}, cipher = {"hc_cipher", 0}, move = {"hc_move", 0}, checkpoint_length = {"hc_checkpoint_length", 0},
-                   writing = {"hc_write", 0}, recover = {"hc_recover", 0}, load = {"hc_load", 0}, spent = {"hc_spent", 0};
+                   writing = {"hc_write", 0}, recover = {"hc_recover", 0}, load = {"hc_load", 0}, spent = {"hc_spent", 0},
+                   write_volume = {"hc_write_volume", 0}, read_volume = {"hc_read_volume", 0}, encipher_volume = {"hc_encipher_volume", 0};
 
 /* Makes a call with up to eight arguments, the last two on the stack, and keeps the most that it took. */
 static void measure(struct call *call, void *function, const uintptr_t arguments[8])
@@ -76,11 +77,41 @@ static void of_cipher(uint32_t code, size_t key_bytes, size_t words)
     }
 }
 
+/* Volumes of none to 2,000 entries, whose numbers have one to three groups: written, read, and enciphered at the position that the last one left. */
+static void of_volumes(uint32_t code, size_t key_bytes, size_t words)
+{
+    static const uint32_t kinds[3][4] = {{0, 0, 0, 1}, {128, 128, 128, 8}, {1440, 100000, 10000, 4}};
+    static uint32_t entries[4 * HC_VOLUME_ENTRIES], list[4 * HC_VOLUME_ENTRIES];
+    static uint8_t volume[HC_VOLUME_BYTES];
+    struct hc_head head = {0};
+    hc_set_up(&head, code, key, key_bytes, iv, key_bytes, area, words);
+    for (size_t n = 0; n <= HC_VOLUME_ENTRIES; n = 2 * n + 1) {
+        for (size_t i = 0; i < 4 * n; i++)
+            entries[i] = kinds[i / 4 % 3][i % 4];
+        MEASURE(write_volume, hc_write_volume, AT(entries), 4 * n, AT(volume), sizeof volume);
+        size_t length = hc_write_volume(entries, 4 * n, volume, sizeof volume).length;
+        MEASURE(read_volume, hc_read_volume, AT(volume), length, AT(list), 4 * n);
+        if (memcmp(list, entries, 4 * n * sizeof *list) != 0) {
+            printf("a volume of %zu entries was not read back\n", n);
+            exit(1);
+        }
+        uint64_t end = head.position + length;
+        MEASURE(encipher_volume, hc_encipher_volume, AT(&head), AT(area), words, AT(volume), length);
+        if (head.position != end) {
+            printf("a volume of %zu entries was not enciphered\n", n);
+            exit(1);
+        }
+    }
+}
+
 int main(void)
 {
-    const struct call *calls[] = {&set_up, &cipher, &move, &checkpoint_length, &writing, &recover, &load, &spent};
+    const struct call *calls[] = {&set_up, &cipher, &move, &checkpoint_length, &writing, &recover, &load, &spent,
+                                  &write_volume, &read_volume, &encipher_volume};
     of_cipher(HC_128, HC_128_KEY_BYTES, HC_128_AREA_WORDS);
     of_cipher(HC_256, HC_256_KEY_BYTES, HC_256_AREA_WORDS);
+    of_volumes(HC_128, HC_128_KEY_BYTES, HC_128_AREA_WORDS);
+    of_volumes(HC_256, HC_256_KEY_BYTES, HC_256_AREA_WORDS);
     for (size_t i = 0; i < sizeof calls / sizeof *calls; i++)
         printf("%-21s %5zu bytes\n", calls[i]->name, (calls[i]->most + 7) / 8 * 8);
     return 0;

@@ -4,9 +4,9 @@
  * lock and does no input or output, so every call is reentrant, and two engines may be used by two threads at once. From the C library it needs
  * memcpy and memset.
  *
- * Every call returns 0 (HC_OK) or the number of its first refusal, in the order given at the call. A refused call changes nothing: the head, the
- * area and every byte that you lent keep their values. Keys, IVs and keystream are bytes; an area is 32-bit words; a position counts bytes.
- * No structure below has padding, so a call writes no byte of a head, or of what it returns, that is not the value of a field.
+ * Every call returns 0 (HC_OK) or the number of its first refusal, in the order given at the call. A refused call changes nothing: the head, the area
+ * and every byte and number that you lent keep their values. Keys, IVs and keystream are bytes; an area is 32-bit words; a position counts bytes. No
+ * structure below has padding, so a call writes no byte of a head, or of what it returns, that is not the value of a field.
  *
  * Your duties, which C cannot check and the proofs take for granted:
  *   - A pointer is not null and points to as many elements as the length after it says, aligned for its type, for the whole call.
@@ -22,9 +22,9 @@
  * area and a checkpoint are as secret as the key, since hc_recover finds the key in them. hc_load and hc_recover work on a copy of the tables on the
  * stack, and no call wipes its stack.
  *
- * Refusal 13: each step changes one word of the area and makes one word, four bytes, of keystream. A head's word is the one that the last step
- * made, and 0 at position 0. hc_cipher, hc_move, hc_write and hc_recover work it out from the area and compare. So a head with an area of an
- * earlier position is noticed as soon as a word of keystream begins between the two positions, for the area lacks the head's last step. Not
+ * Refusal 13: each step changes one word of the area and makes one word, four bytes, of keystream. A head's word is the one that the last step made,
+ * and 0 at position 0. hc_cipher, hc_encipher_volume, hc_move, hc_write and hc_recover work it out from the area and compare. So a head with an area
+ * of an earlier position is noticed as soon as a word of keystream begins between the two positions, for the area lacks the head's last step. Not
  * noticed are, among others:
  *   - a head with an area of a later position, as long as no later step has changed one of the four (HC-128) or six (HC-256) words of the area
  *     that the head's word is made of: mostly to the end of the turn of 512 (HC-128) or 1,024 (HC-256) words of keystream in which the head's
@@ -93,7 +93,7 @@ enum hc_refusal {
     HC_STRING_LENGTH = 11, /* the bytes after the position are not as many as the tables */
     HC_NO_KEY = 12,        /* no key and IV have these tables at this position */
     HC_FALSE_WORD = 13,    /* the head's word is not the one that the area has at the head's position */
-    HC_VOLUME_NUMBER = 14, /* a number of the volume is not in its shortest form, or its third byte announces another */
+    HC_VOLUME_NUMBER = 14, /* a number of the volume is not in its shortest form, or its third group announces another */
     HC_VOLUME_RANGE = 15,  /* a number of the volume, or of the entries to write, is out of its range */
     HC_VOLUME_ENDS = 16    /* the volume ends early or has bytes after its last entry; or the numbers to write are not whole entries */
 };
@@ -159,32 +159,34 @@ uint64_t hc_recover(struct hc_head *head, const uint32_t *area, size_t area_word
 /* Load: fills area and head from a checkpoint, whatever the head was, and returns its key and IV. The mark becomes the loaded position. The area must
  * already have the size for the checkpoint's cipher. string is the checkpoint and no byte more. Before it accepts, it takes every step back to set
  * up and checks the key and IV that it finds there.
- * Refusals: 9, 1, 4, then for the position 10 or 9, then 5, 11, 12. Stack: 8,840 bytes. */
+ * Refusals: 9, 1, 4, then for the position 10 or 9, then 5, 11, 12. Stack: 8,736 bytes. */
 struct hc_words hc_load(struct hc_head *head, uint32_t *area, size_t area_words, const uint8_t *string, size_t string_bytes);
 
-/* Spent: how far the keystream has been used, which is the head's mark: the farthest position that a cipher call reached since the last set up or
- * load. Set up starts it at 0, load at the loaded position, and a move leaves it. A mark that you made up is taken as it is: no call checks it,
- * hc_spent returns it, and hc_cipher takes the larger of it and its own end. Refusal 5 is about the position, whatever the mark. The head stays.
+/* Spent: how far the keystream has been used, which is the head's mark: the farthest position that a cipher call, or the enciphering of a volume,
+ * reached since the last set up or load. Set up starts it at 0, load at the loaded position, and a move leaves it. A mark that you made up is taken
+ * as it is: no call checks it, hc_spent returns it, and hc_cipher and hc_encipher_volume take the larger of it and their own end. Refusal 5 is about
+ * the position, whatever the mark. The head stays.
  * Refusals: 1, 5. Stack: 0 bytes. */
 struct hc_count hc_spent(struct hc_head *head);
 
 /* Write volume: puts the volume of these entries at the start of the lent bytes and returns its length; later bytes and the entries stay.
  * numbers is four times the count of entries.
  * Refusals: 16 where numbers is not a multiple of 4; 15 for more than HC_VOLUME_ENTRIES entries or a number out of its range; 8 for fewer lent
- * bytes than the volume has. Stack: 0 bytes. */
+ * bytes than the volume has. Stack: 144 bytes. */
 struct hc_length hc_write_volume(const uint32_t *entries, size_t numbers, uint8_t *lent, size_t lent_bytes);
 
 /* Read volume: puts the entries of a volume at the start of the lent list and returns their count; later elements stay. volume is the volume and no
  * byte more. Nothing is put into the list before the whole volume has been read.
- * Refusals, for the first number from the volume's start that is at fault: 16 where the volume ends before its last group, 14 where it is not in
- * its shortest form or its third group announces another, 15 where it is out of its range (14 where it earns both); then 16 for bytes after the
- * last entry; then 8 where the list has fewer than four elements for each entry. Stack: 0 bytes. */
+ * Refusals, for the first number from the volume's start that is at fault: 16 where the volume ends before the number's last group, 14 where it is
+ * not in its shortest form or its third group announces another (also where the volume ends there), 15 where it is out of its range (14 where it
+ * earns both); then 16 for bytes after the last entry; then 8 where the list has fewer than four elements for each entry. Four times
+ * HC_VOLUME_ENTRIES elements are always enough. Stack: 128 bytes. */
 struct hc_count hc_read_volume(const uint8_t *volume, size_t volume_bytes, uint32_t *entries, size_t numbers);
 
 /* Encipher volume: enciphers a written volume in its buffer, as hc_cipher does with these bytes: position, tables, word and mark are then those after
  * that call. volume is the volume and no byte more: lend as many bytes as hc_write_volume returned. hc_cipher deciphers it again, at the same
  * position.
- * Refusals: 16, 14, 15 as hc_read_volume, then 1, 4, 5, 13, 6 as hc_cipher. Stack: 0 bytes.
+ * Refusals: 16, 14, 15 as hc_read_volume, then 1, 4, 5, 13, 6 as hc_cipher. Stack: 304 bytes.
  *
  * A shift's entries, written and enciphered:
  *

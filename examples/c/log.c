@@ -1,6 +1,6 @@
 /* The first program to write: log blend ratios, keep a checkpoint, go on from it elsewhere, and read everything back without the key. On the way it shows
  * that a look back at an old entry leaves what is spent, that a refused call changes nothing, and that a head is refused with an area that was copied
- * too early. */
+ * too early. At the end a shift's entries are written as a volume, enciphered, deciphered and read. */
 #include <inttypes.h>
 #include <stdio.h>
 #include <stdlib.h>
@@ -49,6 +49,48 @@ static void show(const char *what, const uint8_t *bytes, size_t n)
     for (size_t i = 0; i < n; i++)
         printf(" %02x", bytes[i]);
     printf("\n");
+}
+
+#define ENTRIES 2
+
+/* A shift's entries are written as a volume and enciphered behind what the box has logged; then the box moves back, deciphers the volume and reads it. */
+static void log_shift(void)
+{
+    const uint32_t entries[ENTRIES * HC_ENTRY_NUMBERS] = {
+        0,  1000,  525, 4, /* at once, 1,000 litres at 5.25 percent of product 4 */
+        15, 20000, 610, 2, /* 15 minutes later, 20,000 litres at 6.1 percent of product 2 */
+    };
+    uint32_t found[ENTRIES * HC_ENTRY_NUMBERS];
+    static uint8_t volume[HC_VOLUME_BYTES];
+
+    struct hc_length written = hc_write_volume(entries, ENTRIES * HC_ENTRY_NUMBERS, volume, sizeof volume);
+    check("write volume", written.refusal);
+    show("a shift's volume:", volume, written.length);
+
+    /* One byte more than the volume is refused, and every byte stays. */
+    static uint8_t volume_before[HC_VOLUME_BYTES];
+    memcpy(volume_before, volume, sizeof volume);
+    before = box;
+    uint64_t refusal = hc_encipher_volume(&box.head, box.area, WORDS, volume, written.length + 1);
+    check_same("head and area", &before, &box, sizeof box);
+    check_same("volume", volume_before, volume, sizeof volume);
+    printf("enciphering one byte more than the volume is refused with %" PRIu64 ", and every byte stays\n", refusal);
+
+    uint64_t start = box.head.position;
+    check("encipher volume", hc_encipher_volume(&box.head, box.area, WORDS, volume, written.length));
+    show("enciphered:", volume, written.length);
+    printf("position %" PRIu64 ", which was %" PRIu64 "\n", box.head.position, start);
+
+    check("move", hc_move(&box.head, box.area, WORDS, -(int64_t)written.length));
+    check("cipher", hc_cipher(&box.head, box.area, WORDS, volume, written.length));
+    struct hc_count read = hc_read_volume(volume, written.length, found, ENTRIES * HC_ENTRY_NUMBERS);
+    check("read volume", read.refusal);
+    check_same("entries", entries, found, sizeof found);
+    printf("deciphered and read: %" PRIu64 " entries\n", read.count);
+    for (size_t i = 0; i < read.count; i++) {
+        const uint32_t *entry = found + HC_ENTRY_NUMBERS * i;
+        printf("  after %" PRIu32 " minutes %" PRIu32 " litres at %" PRIu32 " of product %" PRIu32 "\n", entry[0], entry[1], entry[2], entry[3]);
+    }
 }
 
 int main(void)
@@ -125,5 +167,7 @@ int main(void)
     check_same("head and area", &before, &copy, sizeof copy);
     check_same("lent bytes", seventh_before, seventh, sizeof seventh);
     printf("a head copied two ratios after its area is refused with %" PRIu64 ", and every byte stays\n", refusal);
+
+    log_shift();
     return 0;
 }

@@ -64,4 +64,7 @@ extern "C" {
     ) -> u64;
     pub fn hc_load(head: *mut HcHead, area: *mut u32, area_words: usize, string: *const u8, string_bytes: usize) -> HcWords;
     pub fn hc_spent(head: *mut HcHead) -> HcCount;
+    pub fn hc_write_volume(entries: *const u32, numbers: usize, lent: *mut u8, lent_bytes: usize) -> HcLength;
+    pub fn hc_read_volume(volume: *const u8, volume_bytes: usize, entries: *mut u32, numbers: usize) -> HcCount;
+    pub fn hc_encipher_volume(head: *mut HcHead, area: *mut u32, area_words: usize, volume: *mut u8, volume_bytes: usize) -> u64;
 }

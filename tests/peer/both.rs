@@ -5,6 +5,7 @@ use crate::calls::{self, Head};
 use crate::ciphers::{self, Cipher};
 use crate::lent::Lent;
 use crate::tally::Tally;
+use crate::volume::{self, Fault};
 use std::fmt::{Debug, LowerHex};
 use std::mem::transmute;
 
@@ -99,6 +100,13 @@ fn answer<T>(result: &Result<T, u64>) -> String {
     }
 }
 
+/// The first numbers of a list and how many there are.
+fn short_list(list: &[u32]) -> String {
+    let first: Vec<String> = list.iter().take(8).map(|number| number.to_string()).collect();
+    let more = if list.len() > 8 { ".." } else { "" };
+    format!("{} numbers [{}{}]", list.len(), first.join(" "), more)
+}
+
 /// The first bytes in hexadecimal and the number of all.
 pub fn short(bytes: &[u8]) -> String {
     let first: Vec<String> = bytes.iter().take(8).map(|byte| format!("{byte:02x}")).collect();
@@ -139,7 +147,7 @@ impl<'t> Both<'t> {
     }
 
     /// Whether the head names a cipher and a position and has another word than the tables.
-    fn has_false_word(&self) -> bool {
+    pub fn has_false_word(&self) -> bool {
         match Cipher::of_code(self.head.code) {
             Some(cipher) if cipher.area_words() <= self.area.len() => {
                 calls::engine_is_good(&self.head, &self.area[..cipher.area_words()]) == Err(13)
@@ -151,6 +159,11 @@ impl<'t> Both<'t> {
     /// Lends bytes at an address that changes from call to call.
     fn lend(&self, bytes: &[u8]) -> Lent<u8> {
         Lent::new(bytes, BYTE_GUARD, 16 + (self.calls % 16) as usize)
+    }
+
+    /// Lends numbers at an address that changes from call to call.
+    fn lend_list(&self, list: &[u32]) -> Lent<u32> {
+        Lent::new(list, WORD_GUARD, 1 + (self.calls % 16) as usize)
     }
 
     fn begin(&mut self, call: String) -> Comparison {
@@ -208,8 +221,13 @@ impl<'t> Both<'t> {
     }
 
     pub fn cipher(&mut self, words: usize, bytes: &[u8]) -> Agreed<()> {
+        Ok(self.ciphered(words, bytes)?.map(|_| ()))
+    }
+
+    /// Cipher; what it returns is the lent bytes afterwards.
+    pub fn ciphered(&mut self, words: usize, bytes: &[u8]) -> Agreed<Vec<u8>> {
         let mut comparison = self.begin(format!("cipher, {}, area {words} words", short(bytes)));
-        let Head { position: before, mark, .. } = self.head;
+        let before = self.head;
         let mut lent = self.lend(bytes);
         let mut peer_bytes = bytes.to_vec();
         let head = self.head_pointer();
@@ -220,60 +238,69 @@ impl<'t> Both<'t> {
         comparison.equal_lists("ciphered bytes", lent.content(), &peer_bytes);
         comparison.guards("ciphered bytes", &lent);
         self.end(comparison)?;
-        let cipher = Cipher::of_code(self.head.code);
-        self.tally.call("cipher", &answer(&result), cipher);
-        if let (Err(13), Some(cipher)) = (result, cipher) {
+        self.tally.call("cipher", &answer(&result), Cipher::of_code(self.head.code));
+        self.count_cipher("cipher", before, bytes.len(), result);
+        Ok(result.map(|_| peer_bytes))
+    }
+
+    /// Counts what is of special interest in a cipher call, or in the cipher call that an enciphering is.
+    fn count_cipher(&mut self, call: &str, before: Head, bytes: usize, result: Result<(), u64>) {
+        let Some(cipher) = Cipher::of_code(before.code) else { return };
+        let mark = before.mark;
+        let before = before.position;
+        if result == Err(13) {
             if before == 0 {
                 self.tally.special("13 at position 0", cipher);
             }
             if before % 4 != 0 {
                 self.tally.special("13 inside a word", cipher);
             }
-            if before as u128 + bytes.len() as u128 > calls::LIMIT as u128 {
-                self.tally.special("13 before 6 in cipher", cipher);
+            if before as u128 + bytes as u128 > calls::LIMIT as u128 {
+                self.tally.special(&format!("13 before 6 in {call}"), cipher);
             }
         }
-        if let (Err(6), Some(cipher), true) = (result, cipher, mark < calls::LIMIT) {
-            self.tally.special("6 in cipher, mark below the limit", cipher);
+        if result == Err(6) && mark < calls::LIMIT {
+            self.tally.special(&format!("6 in {call}, mark below the limit"), cipher);
         }
-        if let (Ok(()), Some(cipher)) = (result, cipher) {
-            let table = |position: u64| calls::steps_at(position) / cipher.table_words() as u64;
-            let after = self.head.position;
-            if bytes.is_empty() {
-                self.tally.special("cipher of no bytes", cipher);
-            }
-            if !bytes.is_empty() && before % 4 != 0 {
-                self.tally.special("cipher from inside a word", cipher);
-            }
-            if table(before) != table(after) {
-                self.tally.special("cipher past the last word of a table", cipher);
-            }
-            if !bytes.is_empty() && after == calls::LIMIT {
-                self.tally.special("cipher to the limit", cipher);
-            }
-            if bytes.is_empty() && before > mark {
-                self.tally.special("cipher of no bytes beyond the mark", cipher);
-            }
-            if !bytes.is_empty() && before > mark {
-                self.tally.special("cipher from beyond the mark", cipher);
-            }
-            if !bytes.is_empty() && before == mark {
-                self.tally.special("cipher from the mark", cipher);
-            }
-            if !bytes.is_empty() && before < mark && after < mark {
-                self.tally.special("cipher behind the mark, which stays", cipher);
-            }
-            if !bytes.is_empty() && after == mark {
-                self.tally.special("cipher that ends at the mark", cipher);
-            }
-            if before < mark && after > mark {
-                self.tally.special("cipher from behind the mark, which rises", cipher);
-            }
-            if !bytes.is_empty() && mark > calls::LIMIT {
-                self.tally.special("cipher with a mark over the limit", cipher);
-            }
+        if result.is_err() {
+            return;
         }
-        Ok(result)
+        let after = self.head.position;
+        let table = |position: u64| calls::steps_at(position) / cipher.table_words() as u64;
+        if bytes == 0 {
+            self.tally.special(&format!("{call} of no bytes"), cipher);
+            if before > mark {
+                self.tally.special(&format!("{call} of no bytes beyond the mark"), cipher);
+            }
+            return;
+        }
+        if before % 4 != 0 {
+            self.tally.special(&format!("{call} from inside a word"), cipher);
+        }
+        if table(before) != table(after) {
+            self.tally.special(&format!("{call} past the last word of a table"), cipher);
+        }
+        if after == calls::LIMIT {
+            self.tally.special(&format!("{call} to the limit"), cipher);
+        }
+        if before > mark {
+            self.tally.special(&format!("{call} from beyond the mark"), cipher);
+        }
+        if before == mark {
+            self.tally.special(&format!("{call} from the mark"), cipher);
+        }
+        if after < mark {
+            self.tally.special(&format!("{call} behind the mark, which stays"), cipher);
+        }
+        if after == mark {
+            self.tally.special(&format!("{call} that ends at the mark"), cipher);
+        }
+        if before < mark && after > mark {
+            self.tally.special(&format!("{call} from behind the mark, which rises"), cipher);
+        }
+        if mark > calls::LIMIT {
+            self.tally.special(&format!("{call} with a mark over the limit"), cipher);
+        }
     }
 
     pub fn move_by(&mut self, words: usize, distance: i64) -> Agreed<()> {
@@ -479,5 +506,146 @@ impl<'t> Both<'t> {
             self.tally.special("5 in spent, mark not over the limit", cipher);
         }
         Ok(result)
+    }
+
+    /// Encipher volume; what it returns is the lent bytes afterwards.
+    pub fn encipher_volume(&mut self, words: usize, bytes: &[u8]) -> Agreed<Vec<u8>> {
+        let mut comparison = self.begin(format!("encipher volume, {}, area {words} words", short(bytes)));
+        let before = self.head;
+        let fault = volume::entries_of(bytes).err();
+        let as_cipher = calls::cipher_is_good(&before, &self.area[..words], bytes.len());
+        let mut lent = self.lend(bytes);
+        let mut peer_bytes = bytes.to_vec();
+        let head = self.head_pointer();
+        let area = self.archive_area.pointer();
+        let refusal = unsafe { archive::hc_encipher_volume(head, area, words, lent.pointer(), bytes.len()) };
+        let result = volume::encipher(&mut self.head, &mut self.area[..words], &mut peer_bytes);
+        comparison.equal("answer", plain(refusal), result);
+        comparison.equal_lists("enciphered bytes", lent.content(), &peer_bytes);
+        if result.is_err() {
+            comparison.equal_lists("bytes of a refused call", lent.content(), bytes);
+        }
+        comparison.guards("enciphered bytes", &lent);
+        self.end(comparison)?;
+        let cipher = Cipher::of_code(before.code);
+        let answer = fault.map_or(answer(&result), |fault| fault.kind().to_string());
+        self.tally.call("encipher volume", &answer, cipher);
+        if let (Some(_), Err(refusal)) = (fault, as_cipher) {
+            self.tally.special(&format!("14, 15 or 16 before {refusal} in encipher volume"), cipher);
+        }
+        if result == Ok(()) && bytes == [0] {
+            self.tally.special("encipher volume of no entries", cipher);
+        }
+        if fault.is_none() {
+            self.count_cipher("encipher volume", before, bytes.len(), result);
+        }
+        Ok(result.map(|_| peer_bytes))
+    }
+
+    /// Write volume, which takes neither head nor area; both are compared all the same. What it returns is the lent bytes up to
+    /// the returned length.
+    pub fn write_volume(&mut self, list: &[u32], lent_before: &[u8]) -> Agreed<Vec<u8>> {
+        let mut comparison = self.begin(format!("write volume, {}, {} lent", short_list(list), short(lent_before)));
+        let mut lent_list = self.lend_list(list);
+        let mut lent = self.lend(lent_before);
+        let mut peer_lent = lent_before.to_vec();
+        let returned = unsafe { archive::hc_write_volume(lent_list.pointer(), list.len(), lent.pointer(), lent_before.len()) };
+        let result = volume::write(list, &mut peer_lent);
+        comparison.equal("answer", plain(returned.refusal), result.map(|_| ()));
+        comparison.equal("returned length", returned.length, result.unwrap_or(0));
+        let returned_bytes = unsafe { transmute::<HcLength, [u8; 16]>(returned) };
+        let expected_bytes = bytes_of_numbers(&[number(&result), result.unwrap_or(0) as u64]);
+        comparison.equal_bytes("returned structure", &returned_bytes, &expected_bytes);
+        comparison.equal_lists("lent bytes", lent.content(), &peer_lent);
+        let written = result.unwrap_or(0);
+        comparison.equal_lists("later bytes", &lent.content()[written..], &lent_before[written..]);
+        comparison.equal_lists("list", lent_list.content(), list);
+        comparison.guards("lent bytes", &lent);
+        comparison.guards("list", &lent_list);
+        self.end(comparison)?;
+        self.count_write_volume(list, lent_before.len(), result);
+        Ok(result.map(|length| peer_lent[..length].to_vec()))
+    }
+
+    /// Counts a write of a volume. Where a list is refused with 16 or 15, no lent bytes are surely too few.
+    fn count_write_volume(&mut self, list: &[u32], lent: usize, result: Result<usize, u64>) {
+        let out_of_range = volume::out_of_range(list);
+        let answer = match (result, out_of_range) {
+            (Err(15), Some(number)) => format!("15 out of range, {}", number.name),
+            _ => answer(&result),
+        };
+        self.tally.call("write volume", &answer, None);
+        let mut special = |holds: bool, what: &str| {
+            if holds {
+                self.tally.special(what, None);
+            }
+        };
+        special(result == Err(16) && out_of_range.is_some(), "16 before 15 in write volume");
+        special(result == Err(16) && lent == 0, "16 before 8 in write volume");
+        special(result == Err(15) && lent == 0, "15 before 8 in write volume");
+        special(result.is_ok() && list.is_empty(), "write volume of no entries");
+        special(result.is_ok() && list.len() == 8_000, "write volume of 2,000 entries");
+        special(result == Ok(lent), "write volume, just enough lent");
+        special(result.is_ok_and(|length| length < lent), "write volume, more lent");
+        special(result == Err(8) && lent + 1 == volume::volume_of(list).len(), "write volume, one byte too few lent");
+    }
+
+    /// Read volume, which takes neither head nor area; both are compared all the same. What it returns is the count and the whole
+    /// list afterwards.
+    pub fn read_volume(&mut self, string: &[u8], list_before: &[u32]) -> Agreed<(u64, Vec<u32>)> {
+        let mut comparison = self.begin(format!("read volume, {}, list of {}", short(string), list_before.len()));
+        let mut lent = self.lend(string);
+        let mut lent_list = self.lend_list(list_before);
+        let mut peer_list = list_before.to_vec();
+        let returned = unsafe { archive::hc_read_volume(lent.pointer(), string.len(), lent_list.pointer(), list_before.len()) };
+        let result = volume::read(string, &mut peer_list);
+        comparison.equal("answer", plain(returned.refusal), result.map(|_| ()));
+        comparison.equal("returned count", returned.count, result.unwrap_or(0));
+        let returned_bytes = unsafe { transmute::<HcCount, [u8; 16]>(returned) };
+        let expected_bytes = bytes_of_numbers(&[number(&result), result.unwrap_or(0)]);
+        comparison.equal_bytes("returned structure", &returned_bytes, &expected_bytes);
+        comparison.equal_lists("list", lent_list.content(), &peer_list);
+        let read = 4 * result.unwrap_or(0) as usize;
+        comparison.equal_lists("later elements", &lent_list.content()[read..], &list_before[read..]);
+        comparison.equal_lists("volume", lent.content(), string);
+        comparison.guards("list", &lent_list);
+        comparison.guards("volume", &lent);
+        self.end(comparison)?;
+        self.count_read_volume(string, list_before.len(), result);
+        Ok(result.map(|count| (count, peer_list)))
+    }
+
+    /// Counts a read of a volume. Where a string is refused with 16, 15 or 14, its first byte may still be a count of less than
+    /// 128 for which the list is too short.
+    fn count_read_volume(&mut self, string: &[u8], list: usize, result: Result<u64, u64>) {
+        let read = volume::entries_of(string);
+        let answer = match read {
+            Err(fault) => match fault.number() {
+                Some(number) => format!("{}, {}", fault.kind(), number.name),
+                None => fault.kind().to_string(),
+            },
+            Ok(_) => answer(&result),
+        };
+        self.tally.call("read volume", &answer, None);
+        let mut special = |holds: bool, what: &str| {
+            if holds {
+                self.tally.special(what, None);
+            }
+        };
+        if let Err(fault) = read {
+            let is_short = string.first().is_some_and(|count| *count < 128 && list < 4 * *count as usize);
+            special(is_short, &format!("{} before 8 in read volume", fault.refusal()));
+            special(fault == Fault::BytesAfter && is_short, "16 for bytes after before 8 in read volume");
+            let is_at_end =
+                fault.refusal() == 14 && matches!(volume::entries_of(&string[..string.len() - 1]), Err(Fault::Ends(_)));
+            special(is_at_end, "14 at the end of the string in read volume");
+        }
+        if let Ok(entries) = read {
+            special(result == Ok(0), "read volume of no entries");
+            special(result == Ok(2_000), "read volume of 2,000 entries");
+            special(result.is_ok() && list == entries.len(), "read volume, list just long enough");
+            special(result.is_ok() && list > entries.len(), "read volume, longer list");
+            special(result == Err(8) && list + 1 == entries.len(), "read volume, list one number short");
+        }
     }
 }

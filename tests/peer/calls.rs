@@ -1,5 +1,6 @@
-//! The eight calls: the refusals in their order, then what an accepted call does. Document 01 states seven of them, requests (a),
-//! (b) and (g) of document 02 change them, and the C header states the eighth, checkpoint length.
+//! The eight calls of an engine and its checkpoints: the refusals in their order, then what an accepted call does. Document 01
+//! states seven of them, requests (a), (b) and (g) of document 02 change them, and the C header states the eighth, checkpoint
+//! length. The three calls of request (d) are in volume.rs.
 
 use crate::ciphers::{self, Cipher};
 
@@ -94,12 +95,18 @@ pub fn set_up(head: &mut Head, code: u32, key: &[u8], iv: &[u8], area: &mut [u32
     Ok(())
 }
 
-/// Cipher, one byte at a time. A byte that ends beyond the mark takes the mark along.
-pub fn cipher(head: &mut Head, area: &mut [u32], bytes: &mut [u8]) -> Result<(), u64> {
+/// The refusals of cipher for so many bytes.
+pub fn cipher_is_good(head: &Head, area: &[u32], bytes: usize) -> Result<Cipher, u64> {
     let cipher = engine_is_good(head, area)?;
-    if head.position as u128 + bytes.len() as u128 > LIMIT as u128 {
+    if head.position as u128 + bytes as u128 > LIMIT as u128 {
         return Err(6);
     }
+    Ok(cipher)
+}
+
+/// Cipher, one byte at a time. A byte that ends beyond the mark takes the mark along.
+pub fn cipher(head: &mut Head, area: &mut [u32], bytes: &mut [u8]) -> Result<(), u64> {
+    let cipher = cipher_is_good(head, area, bytes.len())?;
     for byte in bytes {
         let number = head.position / 4;
         if head.position % 4 == 0 {

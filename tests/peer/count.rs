@@ -1,10 +1,11 @@
-//! How far the cipher calls of a list reached, counted from the calls and their answers alone, without head and tables.
+//! How far the cipher calls of a list reached, encipherings of volumes among them, counted from the calls and their answers
+//! alone, without head and tables.
 
 #[derive(Default)]
 pub struct Count {
     /// Where the last accepted call ended.
     pub position: u64,
-    /// The farthest end of a cipher call of one byte or more since the last set up or load.
+    /// The farthest end of a cipher call of one byte or more, or of an enciphering, since the last set up or load.
     pub farthest: u64,
 }
 
@@ -28,7 +29,7 @@ impl Count {
         *self = Count { position, farthest: position };
     }
 
-    /// An accepted cipher call of so many bytes.
+    /// An accepted cipher call of so many bytes, or an accepted enciphering of a volume of so many.
     pub fn cipher(&mut self, bytes: usize) {
         self.position += bytes as u64;
         if bytes != 0 {

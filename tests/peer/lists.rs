@@ -7,7 +7,9 @@ use crate::count::Count;
 use crate::made::NO_CIPHER;
 use crate::marks::MARK_EDGES;
 use crate::random::Random;
+use crate::random_volumes::{self, any_entries};
 use crate::tally::Tally;
+use crate::volume;
 use std::cmp::Ordering;
 
 /// The words of memory for areas, more than the larger cipher needs.
@@ -274,7 +276,7 @@ impl List<'_> {
     }
 
     fn any_call(&mut self) -> Result<(), String> {
-        match self.random.below(120) {
+        match self.random.below(140) {
             0..=9 => self.set_up(),
             10..=34 => {
                 let length = self.cipher_length();
@@ -285,7 +287,9 @@ impl List<'_> {
             67..=74 => self.recover(),
             75..=94 => self.load(),
             95..=109 => self.spent(),
-            _ => self.checkpoint_length(),
+            110..=119 => self.checkpoint_length(),
+            120..=135 => self.encipher_volume(),
+            _ => self.read_volume(),
         }
     }
 
@@ -332,6 +336,65 @@ impl List<'_> {
             count.cipher(length);
         }
         Ok(())
+    }
+
+    /// Entries whose volume ends at the limit, beyond it, around the mark or at the end of a turn, or any. With a false word it
+    /// mostly ends beyond the limit, so that 13 comes before 6.
+    fn entries(&mut self) -> Vec<u32> {
+        let position = self.both.head.position;
+        let turn = self.random.pick(&[2048, 4096, 8192]);
+        let to_mark = self.both.head.mark.saturating_sub(position);
+        let left = LIMIT.saturating_sub(position);
+        let length = match self.random.below(14) {
+            _ if self.both.has_false_word() && !self.random.once_in(8) => left.saturating_add(1),
+            0..=1 => left,
+            2 => left.saturating_add(1),
+            3 => left.saturating_add(self.random.between(2, 9)),
+            4..=5 => to_mark,
+            6 => to_mark.saturating_add(self.random.between(1, 9)),
+            7 => turn - position % turn + self.random.below(10),
+            8 => 1,
+            _ => return any_entries(&mut self.random),
+        };
+        random_volumes::entries_of_length(&mut self.random, length).unwrap_or_else(|| any_entries(&mut self.random))
+    }
+
+    /// Writes a volume and enciphers it, whole or damaged. What was enciphered is sometimes deciphered at the same position.
+    fn encipher_volume(&mut self) -> Result<(), String> {
+        let entries = self.entries();
+        let length = volume::volume_of(&entries).len() + self.random.pick(&[0, 0, 1, 50]);
+        let lent = self.random.bytes(length);
+        let mut volume = self.both.write_volume(&entries, &lent)?.map_err(|_| "write volume refused")?;
+        if self.random.once_in(3) {
+            volume = random_volumes::damaged(&mut self.random, volume);
+        }
+        let words = self.words(self.both.head.code);
+        let agreed = self.both.encipher_volume(words, &volume);
+        let Ok(enciphered) = self.end(agreed)? else { return Ok(()) };
+        if let Some(count) = &mut self.count {
+            count.cipher(volume.len());
+        }
+        if self.random.once_in(4) {
+            let back = -(volume.len() as i64);
+            self.both.move_by(words, back)?.map_err(|_| "move refused")?;
+            let deciphered = self.both.ciphered(words, &enciphered)?;
+            if deciphered != Ok(volume) {
+                return Err(format!("call {}: wrong on both sides: deciphering does not give the volume", self.both.calls));
+            }
+        }
+        Ok(())
+    }
+
+    /// Reads a volume, whole or damaged, into a list that is long enough or one number too short.
+    fn read_volume(&mut self) -> Result<(), String> {
+        let entries = any_entries(&mut self.random);
+        let mut string = volume::volume_of(&entries);
+        if self.random.once_in(2) {
+            string = random_volumes::damaged(&mut self.random, string);
+        }
+        let room = (entries.len() + self.random.pick(&[0, 1, 2, 9])).saturating_sub(1);
+        let list = self.random.words(room);
+        self.both.read_volume(&string, &list).map(|_| ())
     }
 
     fn distance(&mut self) -> i64 {

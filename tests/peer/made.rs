@@ -1,5 +1,5 @@
 //! Cases made by hand, with the answer that document 01, request (a) or (g) of document 02 or the C header gives for each. Those
-//! of request (b) are in marks.rs.
+//! of request (b) are in marks.rs and those of request (d) in volumes.rs.
 
 use crate::both::{Agreed, Both};
 use crate::calls::{self, Head, FRESH, LIMIT};
@@ -8,6 +8,7 @@ use crate::marks;
 use crate::random::Random;
 use crate::tally::Tally;
 use crate::vectors;
+use crate::volumes;
 use std::fmt::Debug;
 
 /// The agreed answer against the expected one.
@@ -676,6 +677,7 @@ pub fn run(seed: u64, tally: &mut Tally) -> Result<(), String> {
         areas_of_later_steps(&mut random, cipher, tally)?;
         any_area_at_0(&mut random, cipher, tally)?;
         marks::run(&mut random, cipher, tally)?;
+        volumes::run(&mut random, cipher, tally)?;
     }
     words_not_twice(&mut random, tally)?;
     length_examples(&mut random, tally)

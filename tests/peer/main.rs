@@ -10,8 +10,11 @@ mod lists;
 mod made;
 mod marks;
 mod random;
+mod random_volumes;
 mod tally;
 mod vectors;
+mod volume;
+mod volumes;
 mod whole;
 
 use ciphers::Cipher;
@@ -24,6 +27,9 @@ const FEWEST_CALLS: u64 = 20_000;
 
 const DEFAULT_SEED: u64 = 1;
 const DEFAULT_LISTS: u64 = 3_000;
+
+/// How many random volumes there are for each random list.
+const VOLUMES_PER_LIST: u64 = 10;
 
 /// A number from the command line, or its default.
 fn argument(place: usize, default: u64) -> Result<u64, String> {
@@ -53,12 +59,18 @@ fn compare(seed: u64, lists: u64) -> Result<(), String> {
         lists::run(seed, list, &mut random).map_err(|text| format!("list {list}, {text}"))?;
     }
     println!("{lists} random lists: no difference");
+    if lists >= DEFAULT_LISTS && random.calls < FEWEST_CALLS {
+        return Err(format!("fewer than {FEWEST_CALLS} calls"));
+    }
+
+    let volumes = VOLUMES_PER_LIST * lists;
+    for volume in 0..volumes {
+        random_volumes::run(seed, volume, &mut random).map_err(|text| format!("random volume {volume}, {text}"))?;
+    }
+    println!("{volumes} random volumes: no difference");
     let faults = random.print_and_check();
     if !faults.is_empty() {
         return Err(faults.join("\n"));
-    }
-    if lists >= DEFAULT_LISTS && random.calls < FEWEST_CALLS {
-        return Err(format!("fewer than {FEWEST_CALLS} calls"));
     }
     Ok(())
 }

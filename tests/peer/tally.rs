@@ -2,41 +2,122 @@
 
 use crate::ciphers::Cipher;
 use std::collections::BTreeMap;
+use Where::{All, Ciphers, Neither};
 
-/// The columns of the count: the ciphers, and calls whose code names none.
+/// The columns of the count: the ciphers, and calls whose code names none or that take no code.
 const COLUMNS: [&str; 3] = ["HC-128", "HC-256", "neither"];
 
-/// For each call the answers that it must give, and whether the code names a cipher where the answer occurs.
-const EXPECTED: [(&str, &[(&str, bool)]); 8] = [
-    ("set up", &[("accepted", true), ("1", false), ("2", true), ("3", true), ("4", true)]),
-    ("cipher", &[("accepted", true), ("1", false), ("4", true), ("5", true), ("13", true), ("6", true)]),
-    ("move", &[("accepted", true), ("1", false), ("4", true), ("5", true), ("13", true), ("7", true), ("6", true)]),
-    ("checkpoint length", &[("accepted", true), ("1", false), ("5", true)]),
-    ("write", &[("accepted", true), ("1", false), ("4", true), ("5", true), ("13", true), ("8", true)]),
+/// In which columns an answer must occur; in the others it must not.
+#[derive(Clone, Copy, PartialEq)]
+enum Where {
+    /// Where the code names a cipher, and for both ciphers.
+    Ciphers,
+    /// Where the code names none, or the call takes no code.
+    Neither,
+    /// In all three.
+    All,
+}
+
+/// For each call the answers that it must give.
+const EXPECTED: [(&str, &[(&str, Where)]); 11] = [
+    ("set up", &[("accepted", Ciphers), ("1", Neither), ("2", Ciphers), ("3", Ciphers), ("4", Ciphers)]),
+    ("cipher", &[("accepted", Ciphers), ("1", Neither), ("4", Ciphers), ("5", Ciphers), ("13", Ciphers), ("6", Ciphers)]),
+    (
+        "move",
+        &[("accepted", Ciphers), ("1", Neither), ("4", Ciphers), ("5", Ciphers), ("13", Ciphers), ("7", Ciphers), ("6", Ciphers)],
+    ),
+    ("checkpoint length", &[("accepted", Ciphers), ("1", Neither), ("5", Ciphers)]),
+    ("write", &[("accepted", Ciphers), ("1", Neither), ("4", Ciphers), ("5", Ciphers), ("13", Ciphers), ("8", Ciphers)]),
     (
         "recover",
-        &[("accepted", true), ("1", false), ("4", true), ("5", true), ("13", true), ("2", true), ("3", true), ("12", true)],
+        &[
+            ("accepted", Ciphers),
+            ("1", Neither),
+            ("4", Ciphers),
+            ("5", Ciphers),
+            ("13", Ciphers),
+            ("2", Ciphers),
+            ("3", Ciphers),
+            ("12", Ciphers),
+        ],
     ),
     (
         "load",
         &[
-            ("accepted", true),
-            ("9 no bytes", false),
-            ("1", false),
-            ("4", true),
-            ("10 fourth group announces another", true),
-            ("9 ends before the last group", true),
-            ("10 last group is 0", true),
-            ("5", true),
-            ("11", true),
-            ("12", true),
+            ("accepted", Ciphers),
+            ("9 no bytes", Neither),
+            ("1", Neither),
+            ("4", Ciphers),
+            ("10 fourth group announces another", Ciphers),
+            ("9 ends before the last group", Ciphers),
+            ("10 last group is 0", Ciphers),
+            ("5", Ciphers),
+            ("11", Ciphers),
+            ("12", Ciphers),
         ],
     ),
-    ("spent", &[("accepted", true), ("1", false), ("5", true)]),
+    ("spent", &[("accepted", Ciphers), ("1", Neither), ("5", Ciphers)]),
+    (
+        "write volume",
+        &[
+            ("accepted", Neither),
+            ("16", Neither),
+            ("15 out of range, count", Neither),
+            ("15 out of range, minutes", Neither),
+            ("15 out of range, litres", Neither),
+            ("15 out of range, ratio", Neither),
+            ("15 out of range, product", Neither),
+            ("8", Neither),
+        ],
+    ),
+    (
+        "read volume",
+        &[
+            ("accepted", Neither),
+            ("16 ends before the last group, count", Neither),
+            ("16 ends before the last group, minutes", Neither),
+            ("16 ends before the last group, litres", Neither),
+            ("16 ends before the last group, ratio", Neither),
+            ("16 ends before the last group, product", Neither),
+            ("14 not in shortest form, count", Neither),
+            ("14 not in shortest form, minutes", Neither),
+            ("14 not in shortest form, litres", Neither),
+            ("14 not in shortest form, ratio", Neither),
+            ("14 not in shortest form, product", Neither),
+            ("14 third group announces another, count", Neither),
+            ("14 third group announces another, minutes", Neither),
+            ("14 third group announces another, litres", Neither),
+            ("14 third group announces another, ratio", Neither),
+            ("14 third group announces another, product", Neither),
+            ("15 out of range, count", Neither),
+            ("15 out of range, minutes", Neither),
+            ("15 out of range, litres", Neither),
+            ("15 out of range, ratio", Neither),
+            ("15 out of range, product", Neither),
+            ("16 bytes after the last entry", Neither),
+            ("8", Neither),
+        ],
+    ),
+    (
+        "encipher volume",
+        &[
+            ("accepted", Ciphers),
+            ("16 ends before the last group", All),
+            ("14 not in shortest form", All),
+            ("14 third group announces another", All),
+            ("15 out of range", All),
+            ("16 bytes after the last entry", All),
+            ("1", Neither),
+            ("4", Ciphers),
+            ("5", Ciphers),
+            ("13", Ciphers),
+            ("6", Ciphers),
+        ],
+    ),
 ];
 
 /// Calls of special interest that must occur for both ciphers.
-const SPECIAL: [&str; 47] = [
+const SPECIAL: [&str; 63] = [
     "cipher of no bytes",
     "cipher from inside a word",
     "cipher past the last word of a table",
@@ -84,6 +165,45 @@ const SPECIAL: [&str; 47] = [
     "spent, count larger than the position",
     "spent, count equal to the position",
     "spent, count smaller than the position",
+    "encipher volume of no entries",
+    "encipher volume from inside a word",
+    "encipher volume past the last word of a table",
+    "encipher volume to the limit",
+    "14, 15 or 16 before 4 in encipher volume",
+    "14, 15 or 16 before 5 in encipher volume",
+    "14, 15 or 16 before 13 in encipher volume",
+    "14, 15 or 16 before 6 in encipher volume",
+    "13 before 6 in encipher volume",
+    "6 in encipher volume, mark below the limit",
+    "encipher volume from beyond the mark",
+    "encipher volume from the mark",
+    "encipher volume behind the mark, which stays",
+    "encipher volume that ends at the mark",
+    "encipher volume from behind the mark, which rises",
+    "encipher volume with a mark over the limit",
+];
+
+/// Calls of special interest that must occur where the code names no cipher or the call takes none.
+const SPECIAL_WITHOUT_CIPHER: [&str; 19] = [
+    "14, 15 or 16 before 1 in encipher volume",
+    "write volume of no entries",
+    "write volume of 2,000 entries",
+    "write volume, just enough lent",
+    "write volume, one byte too few lent",
+    "write volume, more lent",
+    "16 before 15 in write volume",
+    "16 before 8 in write volume",
+    "15 before 8 in write volume",
+    "read volume of no entries",
+    "read volume of 2,000 entries",
+    "read volume, list just long enough",
+    "read volume, list one number short",
+    "read volume, longer list",
+    "14 before 8 in read volume",
+    "15 before 8 in read volume",
+    "16 before 8 in read volume",
+    "16 for bytes after before 8 in read volume",
+    "14 at the end of the string in read volume",
 ];
 
 #[derive(Default)]
@@ -108,23 +228,25 @@ impl Tally {
     }
 
     /// Counts one call of special interest.
-    pub fn special(&mut self, what: &str, cipher: Cipher) {
-        self.counts.entry(("special".to_string(), what.to_string())).or_default()[column(Some(cipher))] += 1;
+    pub fn special(&mut self, what: &str, cipher: impl Into<Option<Cipher>>) {
+        self.counts.entry(("special".to_string(), what.to_string())).or_default()[column(cipher.into())] += 1;
     }
 
     /// Prints the count and returns what is missing from it or has no place in it.
     pub fn print_and_check(&self) -> Vec<String> {
         let mut faults = Vec::new();
         let mut left = self.counts.clone();
-        println!("{:<17} {:<41} {:>8} {:>8} {:>8}", "call", "answer", COLUMNS[0], COLUMNS[1], COLUMNS[2]);
-        let special: Vec<(&str, bool)> = SPECIAL.iter().map(|what| (*what, true)).collect();
+        println!("{:<17} {:<49} {:>8} {:>8} {:>8}", "call", "answer", COLUMNS[0], COLUMNS[1], COLUMNS[2]);
+        let of_ciphers = SPECIAL.iter().map(|what| (*what, Ciphers));
+        let of_neither = SPECIAL_WITHOUT_CIPHER.iter().map(|what| (*what, Neither));
+        let special: Vec<(&str, Where)> = of_ciphers.chain(of_neither).collect();
         let rows = EXPECTED.iter().copied().chain([("special", &special[..])]);
         for (call, answers) in rows {
-            for (answer, has_cipher) in answers {
+            for (answer, place) in answers {
                 let counts = left.remove(&(call.to_string(), answer.to_string())).unwrap_or_default();
-                println!("{:<17} {:<41} {:>8} {:>8} {:>8}", call, answer, counts[0], counts[1], counts[2]);
+                println!("{:<17} {:<49} {:>8} {:>8} {:>8}", call, answer, counts[0], counts[1], counts[2]);
                 for k in 0..3 {
-                    let expected = *has_cipher == (k < 2);
+                    let expected = *place == All || (*place == Ciphers) == (k < 2);
                     if expected && counts[k] == 0 {
                         faults.push(format!("never occurred: {call}, {answer}, {}", COLUMNS[k]));
                     }

@@ -16,7 +16,7 @@ fn piece(random: &mut Random) -> u64 {
 }
 
 /// The text of a difference that the comparison of both sides cannot show.
-fn must(holds: bool, what: &str) -> Result<(), String> {
+pub fn must(holds: bool, what: &str) -> Result<(), String> {
     if holds {
         Ok(())
     } else {

@@ -1,5 +1,6 @@
--- The seven calls of document 01, and the length of a checkpoint and the enciphering of a volume of document 02 (g) and (d), as definitions of their inputs. Each has its result, which is
--- the refusal or what an accepted call gives, and its outcome, which says what it leaves, refused or not: head, area and every lent list.
+-- The seven calls of document 01, and of document 02 the length of a checkpoint (g) and the enciphering of a volume (d), as definitions of their
+-- inputs. Each has its result, which is the refusal or what an accepted call gives, and its outcome, which says what it leaves, refused or not: head,
+-- area and every lent list.
 use mathlib.Core.List.{List, _++_}
 use Prim.Native.Nat.{ℕ, _+_, _-_}
 use lib.Dec.{leb}

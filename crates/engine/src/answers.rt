@@ -24,7 +24,7 @@ pub struct SpentAnswer {
     pub count: u64,
 }
 
-// What set up, cipher, move and recover hand back: the refusal number and the next head.
+// What set up, cipher, encipher volume, move and recover hand back: the refusal number and the next head.
 pub struct Done {
     pub refusal: u64,
     pub head: Head,

@@ -1,6 +1,6 @@
-// The engine: a head and its table area, the seven calls of document 01, the enciphering of a volume, and the length of a checkpoint. All but the last
-// receive the head and hand back the next one beside their answer. A refused call gives its number, and head, area and every lent byte keep their
-// values.
+// The engine: a head and its table area, the seven calls of document 01, the enciphering of a volume, and the length of a checkpoint. All but the
+// last receive the head and hand back the next one beside their answer. A refused call gives its number, and head, area and every lent byte keep
+// their values.
 ghost use mathlib.Core.Path.{_≡_};
 ghost use lib.ListN.{replicate};
 ghost use Rattle.engine.specs.Head as Heads;
@@ -186,11 +186,10 @@ impl Head {
             Answers.ciphered (r .refusal) (r .head) (now (area .exit)) (now (bytes .exit))
             ≡ Calls.encipherVolumeCall self (now (area .entry)) (now (bytes .entry)) ⌝ }
     {
-        let found = volume::count_entries(bytes);
-        let refusal = found.refusal;
-        if refusal != 0 {
+        let unread = volume::check_volume(bytes);
+        if unread != 0 {
             return Done {
-                refusal: refusal,
+                refusal: unread,
                 head: self,
             };
         }

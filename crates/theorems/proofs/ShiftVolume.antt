@@ -1,17 +1,17 @@
 -- The propositions on volumes, from the laws of the crate `volume` and from the definition of the enciphering. Assumes nothing.
 use mathlib.Core.Path.{_≡_, refl, sym, ap, _∙_}
-use mathlib.Core.Bool.{Bool, true, false, _&&_}
+use mathlib.Core.Bool.{Bool, true, false, _&&_, false≢true}
 use mathlib.Core.List.{List, [], _∷_}
 use mathlib.Core.Logic.{_↔_}
 use Prim.Native.Nat.{ℕ, _+_, _*_, _/_, _%_, _^_, _≤_, _<_}
 use native.Mathlib.Omega.{arith}
-use borrow.Author.Tests.{le-leb, lt-leb, leb-true, leb-false}
-use lib.Dec.{leb}
+use borrow.Author.Tests.{eq-eqb, ne-eqb, eqb-true, lt-leb, leb-false}
+use lib.Dec.{eqb, leb}
 use lib.ListN.{length, drop, length-append}
 use lib.Seq.{drop-append-seam}
 use Rattle.laws.specs.Lent.{putFirst}
 use Rattle.laws.specs.Result.{Result, refused, accepted, Outcome, _>>=_, _>>_, refuse_unless_}
-use Rattle.laws.proofs.Same.{and-left, and-right}
+use Rattle.laws.proofs.Same.{and-left, and-right, not-true-is-false}
 use Rattle.laws.proofs.Results.{no-refusal}
 use Rattle.word.specs.Bytes.{AllBytes}
 use Rattle.varint.specs.Number.{number}
@@ -20,10 +20,10 @@ use Rattle.volume.specs.declared.Entry.{Entry}
 use Rattle.volume.specs.Volume.{inRange, countRange, minutesRange, litresRange, ratioRange, productRange, entryInRange, entriesInRange, entryString, entriesString, volumeString, numbersOf, entriesOf}
 use Rattle.volume.specs.Calls.{entriesIn, VolumeRead, readVolume, VolumeWritten, writeVolume}
 use Rattle.volume.proofs.Entries.{numbers-length, entries-numbers, numbers-entries}
-use Rattle.volume.proofs.Values.{range-most, range-least}
-use Rattle.volume.proofs.Writing.{entry-length}
+use Rattle.volume.proofs.Values.{range-holds, range-most, range-least}
+use Rattle.volume.proofs.Measuring.{entry-length}
 use Rattle.volume.proofs.Undo.{minutes-in, litres-in, ratio-in, product-in, volume-back, volume-was, reads-back, writes-back}
-use Rattle.volume.proofs.Shows.{read-shows, read-accepts, write-shows, write-accepts}
+use Rattle.volume.proofs.Shows.{read-shows, read-accepts, write-lines, write-shows, write-accepts}
 use Rattle.engine.specs.declared.Head.{Head}
 use Rattle.engine.specs.Calls.{Engine, Ciphered, encipherVolumeCall, encipherVolume}
 use Rattle.theorems.specs.Account.{call-cipher, call-encipher-volume, called, Account, unless-refused, feed}
@@ -33,9 +33,6 @@ use Rattle.theorems.proofs.Within.{first, after, volume-within, within-
 use Rattle.theorems.proofs.Encipher.{volume-refused, volume-ciphered, call-ciphered}
 
 -- ── ranges as inequalities ──
-
-range-holds : (least most n : ℕ) → least ≤ n → n ≤ most → leb least n && leb n most ≡ true
-range-holds least most n l m = rw (le-leb least n l, le-leb n most m)
 
 entry-in : (e : Entry) → entryInRange e ≡ true → InRange e
 entry-in e h = record {
@@ -137,6 +134,107 @@ write-iff list lent w = (
       rw back at w ∙ ap accepted (sym (t .4))),
 )
 
+-- the lines of writing one after another: b, c, d and e say whether each holds
+module _ (w : VolumeWritten) where
+  abbrev lines : (b c d e : Bool) → Result VolumeWritten
+  lines b c d e = (refuse 16 unless b) >> ((refuse 15 unless c) >> ((refuse 15 unless d) >> ((refuse 8 unless e) >> accepted w)))
+
+  lines-16 : (b c d e : Bool) → lines b c d e ≡ refused 16 → b ≡ false
+  lines-16 false c d e q = refl
+  lines-16 true false d e q = let z : _≡_ {A = ℕ} 15 16 = cc in absurd (omega arith)
+  lines-16 true true false e q = let z : _≡_ {A = ℕ} 15 16 = cc in absurd (omega arith)
+  lines-16 true true true false q = let z : _≡_ {A = ℕ} 8 16 = cc in absurd (omega arith)
+  lines-16 true true true true q = no-refusal q
+
+  lines-15 : (b c d e : Bool) → lines b c d e ≡ refused 15 → (b ≡ true) × (c && d ≡ false)
+  lines-15 false c d e q = let z : _≡_ {A = ℕ} 16 15 = cc in absurd (omega arith)
+  lines-15 true false d e q = (refl, refl)
+  lines-15 true true false e q = (refl, refl)
+  lines-15 true true true false q = let z : _≡_ {A = ℕ} 8 15 = cc in absurd (omega arith)
+  lines-15 true true true true q = no-refusal q
+
+  lines-8 : (b c d e : Bool) → lines b c d e ≡ refused 8 → (b ≡ true) × (c ≡ true) × (d ≡ true) × (e ≡ false)
+  lines-8 false c d e q = let z : _≡_ {A = ℕ} 16 8 = cc in absurd (omega arith)
+  lines-8 true false d e q = let z : _≡_ {A = ℕ} 15 8 = cc in absurd (omega arith)
+  lines-8 true true false e q = let z : _≡_ {A = ℕ} 15 8 = cc in absurd (omega arith)
+  lines-8 true true true false q = (refl, refl, refl, refl)
+  lines-8 true true true true q = no-refusal q
+
+  give-15 : (c d e : Bool) → c && d ≡ false → lines true c d e ≡ refused 15
+  give-15 false d e q = refl
+  give-15 true false e q = refl
+  give-15 true true e q = absurd (false≢true (sym q))
+
+module _ (list lent : List ℕ) where
+  abbrev whole : Bool
+  whole = eqb (length list % 4) 0
+
+  abbrev counted : Bool
+  counted = inRange countRange (length (entriesOf list))
+
+  abbrev ranged : Bool
+  ranged = entriesInRange (entriesOf list)
+
+  abbrev fitting : Bool
+  fitting = leb (length (volumeString (entriesOf list))) (length lent)
+
+  abbrev given : VolumeWritten
+  given = record { length = length (volumeString (entriesOf list)); lent = putFirst (volumeString (entriesOf list)) lent }
+
+  -- the entries of a list that is whole entries
+  whole-list : length list % 4 ≡ 0 → list ≡ numbersOf (entriesOf list)
+  whole-list h = let n : length list ≡ 4 * (length list / 4) = omega arith in sym (numbers-entries (length list / 4) list n)
+
+  of-entries : (entries : List Entry) → list ≡ numbersOf entries → (length list % 4 ≡ 0) × (entriesOf list ≡ entries)
+  of-entries entries e =
+      let n = ap length e ∙ numbers-length entries in (omega arith, ap entriesOf e ∙ entries-numbers entries)
+
+  write-16 : (writeVolume list lent ≡ refused 16) ↔ (length list % 4 ≡ 0 → ⊥)
+  write-16 = (
+    (λ q h. false≢true (sym (lines-16 given whole counted ranged fitting (sym (write-lines list lent) ∙ q)) ∙ eq-eqb (length list % 4) 0 h)),
+    (λ h. write-lines list lent ∙ rw (ne-eqb (length list % 4) 0 h)),
+  )
+
+  write-15 : (writeVolume list lent ≡ refused 15)
+      ↔ ((entries : List Entry) × (list ≡ numbersOf entries) × ((length entries ≤ 2000) × AllInRange entries → ⊥))
+  write-15 = (
+    (λ q.
+        let h = lines-15 given whole counted ranged fitting (sym (write-lines list lent) ∙ q) in (
+          entriesOf list,
+          whole-list (eqb-true (length list % 4) 0 (h .0)),
+          (λ r. false≢true (sym (h .1) ∙ rw (range-holds 0 2000 (length (entriesOf list)) (omega arith) (r .0), all-entries (entriesOf list) (r .1)))),
+        )),
+    (λ t.
+        let o = of-entries (t .0) (t .1) in
+        let both : counted && ranged ≡ true → (length (entriesOf list) ≤ 2000) × AllInRange (entriesOf list) = λ b.
+        (range-most countRange (length (entriesOf list)) (and-left counted ranged b), entries-all (entriesOf list) (and-right counted ranged b)) in
+        let not-both : counted && ranged ≡ false = not-true-is-false (counted && ranged) (λ b. t .2 (rw (o .1) at (both b))) in
+        write-lines list lent ∙ rw (eq-eqb (length list % 4) 0 (o .0)) (give-15 given counted ranged fitting not-both)),
+  )
+
+  write-8 : (writeVolume list lent ≡ refused 8)
+      ↔ ((entries : List Entry) × (list ≡ numbersOf entries) × Volume (volumeString entries) entries × (length lent < length (volumeString entries)))
+  write-8 = (
+    (λ q.
+        let h = lines-8 given whole counted ranged fitting (sym (write-lines list lent) ∙ q) in (
+          entriesOf list,
+          whole-list (eqb-true (length list % 4) 0 (h .0)),
+          record { count = range-most countRange (length (entriesOf list)) (h .1); in-range = entries-all (entriesOf list) (h .2); string-is = refl },
+          leb-false (length (volumeString (entriesOf list))) (length lent) (h .3),
+        )),
+    (λ t.
+        let entries = t .0 in
+        let o = of-entries entries (t .1) in
+        write-lines list lent
+        ∙ rw (
+          eq-eqb (length list % 4) 0 (o .0),
+          o .1,
+          range-holds 0 2000 (length entries) (omega arith) (t .2 .count),
+          all-entries entries (t .2 .in-range),
+          lt-leb (length (volumeString entries)) (length lent) (t .3),
+        )),
+  )
+
 read-beyond : (string list : List ℕ) (r : VolumeRead) → readVolume string list ≡ accepted r → drop (4 * r .count) (r .list) ≡ drop (4 * r .count) list
 read-beyond string list r e =
     let s = read-shows string list r e in
@@ -190,19 +288,19 @@ write-length list lent w e =
 -- ── in a list ──
 
 module _ (e : Engine) (size : ℕ) (a : Account) (reached volume : List ℕ) where
-  listed : (entries : List Entry) → entriesIn volume ≡ accepted entries
+  call-ciphers : (entries : List Entry) → entriesIn volume ≡ accepted entries
       → (called e (call-encipher-volume volume) ≡ called e (call-cipher volume))
       × (feed size a (call-encipher-volume volume) ≡ feed size a (call-cipher volume))
       × (reachedBy size a reached (call-encipher-volume volume) ≡ reachedBy size a reached (call-cipher volume))
   unfolding called feed reachedBy
-  listed entries q =
+  call-ciphers entries q =
       (ap (λ (x : Outcome Ciphered). x .value .engine) (call-ciphered (e .head) (e .area) volume entries q), rw (feed, q), rw (reachedBy, q))
 
-  not-listed : (n : ℕ) → entriesIn volume ≡ refused n
+  call-leaves : (n : ℕ) → entriesIn volume ≡ refused n
       → (called e (call-encipher-volume volume) ≡ e) × (feed size a (call-encipher-volume volume) ≡ a)
       × (reachedBy size a reached (call-encipher-volume volume) ≡ reached)
   unfolding called feed reachedBy encipherVolumeCall encipherVolume
-  not-listed n q = (rw (called, q), rw (feed, q), rw (reachedBy, q))
+  call-leaves n q = (rw (called, q), rw (feed, q), rw (reachedBy, q))
 
 pub shift-volume : ShiftVolume
 shift-volume = record {
@@ -211,6 +309,9 @@ shift-volume = record {
   read-8 = read-8;
   read-refused = read-refused;
   write-iff = write-iff;
+  write-16 = write-16;
+  write-15 = write-15;
+  write-8 = write-8;
   read-after-write = reads-back;
   write-after-read = writes-back;
   read-beyond = read-beyond;
@@ -218,6 +319,6 @@ shift-volume = record {
   write-length = write-length;
   encipher-refused = volume-refused;
   encipher-ciphers = λ h area volume entries e. (volume-ciphered h area volume entries e, call-ciphered h area volume entries e);
-  listed = listed;
-  not-listed = not-listed;
+  call-ciphers = call-ciphers;
+  call-leaves = call-leaves;
 }

@@ -1,9 +1,9 @@
--- Document 02 (d), the shift volume: 'a writer and a reader, where the two undo each other, and a call that enciphers a written volume in its buffer, a
--- cipher call in the account and for the mark'.
+-- Document 02 (d), the shift volume: 'a writer and a reader, where the two undo each other, and a call that enciphers a written volume in its buffer,
+-- a cipher call in the account and for the mark'.
 use mathlib.Core.Path.{_≡_}
 use mathlib.Core.List.{List, [], _∷_}
 use mathlib.Core.Logic.{_↔_}
-use Prim.Native.Nat.{ℕ, _*_, _/_, _≤_, _<_}
+use Prim.Native.Nat.{ℕ, _*_, _/_, _%_, _≤_, _<_}
 use lib.ListN.{length, take, drop}
 use Rattle.laws.specs.Lent.{putFirst}
 use Rattle.laws.specs.Result.{refused, accepted}
@@ -53,8 +53,19 @@ pub record ShiftVolume : Type 0 where
       ↔ ((entries : List Entry) × (list ≡ numbersOf entries) × Volume (volumeString entries) entries
       × (length (volumeString entries) ≤ length lent)
       × (w ≡ record { length = length (volumeString entries); lent = putFirst (volumeString entries) lent }))
-  -- What is written is read back as the same list: for every list that the writer accepts, reading the bytes that it gave puts the same numbers at the
-  -- start of every list that is as long at least.
+  -- 'Writing refuses a list that is not whole entries with 16, the first value out of range (the count leads) with 15, then fewer lent bytes than the
+  -- volume's own length with 8': each number is given exactly where it is due.
+  pub write-16 : (list lent : List ℕ) → (writeVolume list lent ≡ refused 16) ↔ (length list % 4 ≡ 0 → ⊥)
+  pub write-15 :
+      (list lent : List ℕ)
+      → (writeVolume list lent ≡ refused 15)
+      ↔ ((entries : List Entry) × (list ≡ numbersOf entries) × ((length entries ≤ 2000) × AllInRange entries → ⊥))
+  pub write-8 :
+      (list lent : List ℕ)
+      → (writeVolume list lent ≡ refused 8)
+      ↔ ((entries : List Entry) × (list ≡ numbersOf entries) × Volume (volumeString entries) entries × (length lent < length (volumeString entries)))
+  -- What is written is read back as the same list: for every list that the writer accepts, reading the bytes that it gave puts the same numbers at
+  -- the start of every list that is as long at least.
   pub read-after-write :
       (list lent : List ℕ) (w : VolumeWritten) → writeVolume list lent ≡ accepted w → (other : List ℕ) → length list ≤ length other
       → readVolume (take (w .length) (w .lent)) other ≡ accepted (record { count = length list / 4; list = putFirst list other })
@@ -71,21 +82,21 @@ pub record ShiftVolume : Type 0 where
       (list lent : List ℕ) (w : VolumeWritten) → writeVolume list lent ≡ accepted w → drop (w .length) (w .lent) ≡ drop (w .length) lent
   -- A volume has 1 to 16,002 bytes.
   pub write-length : (list lent : List ℕ) (w : VolumeWritten) → writeVolume list lent ≡ accepted w → (1 ≤ w .length) × (w .length ≤ 16002)
-  -- 'Enciphering refuses as reading does, 8 excepted, then as a cipher call does': what reading refuses is refused with the same number, whatever head and
-  -- area are, and for the rest it is the cipher call of these bytes, which gives and leaves the same.
+  -- 'Enciphering refuses as reading does, 8 excepted, then as a cipher call does': what reading refuses is refused with the same number, whatever
+  -- head and area are, and for the rest it is the cipher call of these bytes, which gives and leaves the same.
   pub encipher-refused :
       (h : Head) (area volume : List ℕ) (n : ℕ) → entriesIn volume ≡ refused n → encipherVolume h area volume ≡ refused n
   pub encipher-ciphers :
       (h : Head) (area volume : List ℕ) (entries : List Entry) → entriesIn volume ≡ accepted entries
       → (encipherVolume h area volume ≡ cipher h area volume) × (encipherVolumeCall h area volume ≡ cipherCall h area volume)
   -- 'a cipher call in the account and for the mark': in a list too it is the cipher call of these bytes where they are a volume, ..
-  pub listed :
+  pub call-ciphers :
       (e : Engine) (size : ℕ) (a : Account) (reached volume : List ℕ) (entries : List Entry) → entriesIn volume ≡ accepted entries
       → (called e (call-encipher-volume volume) ≡ called e (call-cipher volume))
       × (feed size a (call-encipher-volume volume) ≡ feed size a (call-cipher volume))
       × (reachedBy size a reached (call-encipher-volume volume) ≡ reachedBy size a reached (call-cipher volume))
-  -- .. and leaves engine, account and mark where they are none.
-  pub not-listed :
+  -- .. and leaves engine, account and mark where they are no volume.
+  pub call-leaves :
       (e : Engine) (size : ℕ) (a : Account) (reached volume : List ℕ) (n : ℕ) → entriesIn volume ≡ refused n
       → (called e (call-encipher-volume volume) ≡ e) × (feed size a (call-encipher-volume volume) ≡ a)
       × (reachedBy size a reached (call-encipher-volume volume) ≡ reached)

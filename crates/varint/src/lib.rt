@@ -19,17 +19,17 @@ pub fn write_number(n: u64, out: &mut [u8], at: usize) -> usize
     write_number(n / 128, out, at + 1)
 }
 
-// Writes n as `write_number` does. One or two groups are written here, without a call, since most numbers of a volume have no more.
-pub fn put_number(n: u64, out: &mut [u8], at: usize) -> usize
-    requires { ⌜ at + length (Number.number n) ≤ length (now out) ⌝ }
-    ensures { λ r. ⌜ (r ≡ at + length (Number.number n)) × (now (out .exit) ≡ sets (now (out .entry)) at (Number.number n)) ⌝ }
+// Writes a value as `write_number` does. One or two groups are written here, without a call, since most numbers of a volume have no more.
+pub fn put_number(value: u64, out: &mut [u8], at: usize) -> usize
+    requires { ⌜ at + length (Number.number value) ≤ length (now out) ⌝ }
+    ensures { λ r. ⌜ (r ≡ at + length (Number.number value)) × (now (out .exit) ≡ sets (now (out .entry)) at (Number.number value)) ⌝ }
 {
-    if n < 128 {
-        out[at] = n as u8;
+    if value < 128 {
+        out[at] = value as u8;
         return at + 1;
     }
-    out[at] = (n % 128 + 128) as u8;
-    let rest = n / 128;
+    out[at] = (value % 128 + 128) as u8;
+    let rest = value / 128;
     if rest < 128 {
         out[at + 1] = rest as u8;
         return at + 2;
@@ -54,7 +54,7 @@ pub enum Read {
     Malformed,
 }
 
-// The number from place `at` on, of at most `most` groups: read in a loop, since it is read thousands of times in a volume.
+// The number from place `at` on, of at most `most` groups. It is a loop and no recursion, for the speed of reading a volume.
 pub fn read_number(string: &[u8], at: usize, most: u32) -> Read
     requires { ⌜ (at ≤ length (now string)) × (most ≤ 9) ⌝ }
     ensures { λ r. ⌜

@@ -8,12 +8,12 @@ use lib.ListN.{length, drop}
 use Rattle.laws.specs.Result.{Result, refused, accepted, _>>=_, _>>_, refuse_unless_}
 use Rattle.laws.proofs.Results.{no-refusal}
 use Rattle.volume.specs.declared.Entry.{Entry}
-use Rattle.volume.specs.declared.CountFound.{CountFound}
+use Rattle.volume.specs.declared.reading.CountFound.{CountFound}
 use Rattle.volume.specs.Volume.{countRange}
 use Rattle.volume.specs.Calls.{EntriesRead, readValue, readEntries, isEmpty, entriesIn}
 use Rattle.volume.specs.Found.{entriesOnly, countIn, CountIs}
 use Rattle.volume.proofs.Values.{value-in-range, range-most}
-use Rattle.volume.proofs.Reading.{entries-count}
+use Rattle.volume.proofs.EntryByEntry.{entries-count}
 
 -- the volume as entries and nothing after them
 abbrev pub whole : Result EntriesRead → Result (List Entry)
@@ -47,6 +47,7 @@ module _ (string : List ℕ) where
       rw e
       (record {
         count-is = rw (ne-eqb m 0 h, q);
+        beside = λ _. refl;
         at-most = omega arith;
         within = omega arith;
         begins = λ z. absurd (h z);
@@ -69,6 +70,7 @@ module _ (string : List ℕ) where
     counts h q =
         let w = whole-accepted (readEntries n (drop first string)) q in
         record {
+          beside = λ h. absurd (h refl);
           count-is = sym (rw (number, w .2, entries-count n (drop first string) _ (w .1)));
           at-most = range-most countRange n (value-in-range countRange string _ number);
           within = h;

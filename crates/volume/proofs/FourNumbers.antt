@@ -7,11 +7,11 @@ use borrow.Author.Tests.{eq-eqb, ne-eqb}
 use lib.ListN.{length, drop}
 use Rattle.laws.specs.Result.{refused, accepted, _>>=_}
 use Rattle.laws.proofs.Results.{after-line, no-refusal, accepted-one}
-use Rattle.volume.specs.declared.PlaceFound.{PlaceFound}
-use Rattle.volume.specs.declared.NumberFound.{NumberFound}
+use Rattle.volume.specs.declared.reading.PlaceFound.{PlaceFound}
+use Rattle.volume.specs.declared.reading.NumberFound.{NumberFound}
 use Rattle.volume.specs.Volume.{minutesRange, litresRange, ratioRange, productRange}
 use Rattle.volume.specs.Calls.{ValueRead, EntryRead, readValue, readEntry}
-use Rattle.volume.specs.Found.{placeIs, afterEntry, NumberThere, EntryThere}
+use Rattle.volume.specs.Found.{placeIs, afterEntry, NumberReadAgain, EntryReadAgain}
 
 -- what `check_entry` ensures of its answer
 abbrev pub Found : (string rest : List ℕ) → PlaceFound → Type 0
@@ -103,9 +103,9 @@ entry-four string found e =
 
 -- the four numbers read again are those of the entry
 pub entry-again : (string : List ℕ) (at : ℕ) (minutes litres ratio product : NumberFound)
-    → NumberThere string at minutes → NumberThere string (minutes .next) litres → NumberThere string (litres .next) ratio
-    → NumberThere string (ratio .next) product
-    → EntryThere string at (record {
+    → NumberReadAgain string at minutes → NumberReadAgain string (minutes .next) litres → NumberReadAgain string (litres .next) ratio
+    → NumberReadAgain string (ratio .next) product
+    → EntryReadAgain string at (record {
       entry = record { minutes = minutes .value; litres = litres .value; ratio = ratio .value; product = product .value };
       next = product .next;
     })

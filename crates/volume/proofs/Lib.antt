@@ -1,11 +1,11 @@
 pub mod Entries
 pub mod Values
 pub mod FourNumbers
-pub mod Reading
+pub mod EntryByEntry
 pub mod Storing
 pub mod Counting
 pub mod Volumes
-pub mod Writing
+pub mod Measuring
 pub mod Written
 pub mod Shows
 pub mod Undo

@@ -46,7 +46,7 @@ pub record WriteShows (list lent : List ℕ) (w : VolumeWritten) : Type 0 where
   pub room : length (volumeString (entriesOf list)) ≤ length lent
   pub written-is : w ≡ record { length = length (volumeString (entriesOf list)); lent = putFirst (volumeString (entriesOf list)) lent }
 
-write-lines : (list lent : List ℕ)
+pub write-lines : (list lent : List ℕ)
     → writeVolume list lent ≡ ((refuse 16 unless eqb (length list % 4) 0)
     >> ((refuse 15 unless inRange countRange (length (entriesOf list)))
     >> ((refuse 15 unless entriesInRange (entriesOf list))

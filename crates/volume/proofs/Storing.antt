@@ -13,7 +13,7 @@ use Rattle.volume.specs.Volume.{fourNumbers, numbersOf}
 use Rattle.volume.specs.Calls.{EntryRead, EntriesRead, readEntry, readEntries}
 use Rattle.volume.specs.Found.{Stored}
 use Rattle.volume.proofs.Entries.{numbers-length}
-use Rattle.volume.proofs.Reading.{entries-first, none-left, entries-count}
+use Rattle.volume.proofs.EntryByEntry.{entries-first, none-left, entries-count}
 
 numbers-more : (list : List ℕ) (at : ℕ) (e : Entry) (entries : List Entry)
     → sets list at (numbersOf (e ∷ entries)) ≡ sets (sets list at (fourNumbers e)) (at + 4) (numbersOf entries)

@@ -18,7 +18,7 @@ use Rattle.volume.specs.Calls.{ValueRead, EntryRead, EntriesRead, number
 use Rattle.volume.proofs.Entries.{numbers-length, entries-numbers, numbers-entries, entries-length}
 use Rattle.volume.proofs.Values.{ranged-value, value-in-range, range-most}
 use Rattle.volume.proofs.FourNumbers.{entryOf, entry-four}
-use Rattle.volume.proofs.Reading.{entries-zero, entries-suc, entries-first, none-left, entries-count}
+use Rattle.volume.proofs.EntryByEntry.{entries-zero, entries-suc, entries-first, none-left, entries-count}
 use Rattle.volume.proofs.Counting.{whole}
 use Rattle.volume.proofs.Volumes.{whole-found}
 use Rattle.volume.proofs.Shows.{read-shows, read-accepts, write-shows, write-accepts}

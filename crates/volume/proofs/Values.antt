@@ -4,7 +4,7 @@ use mathlib.Core.Bool.{Bool, true, false, _&&_, cond}
 use mathlib.Core.List.{List}
 use Prim.Native.Nat.{ℕ, _^_, _<_, _≤_}
 use native.Mathlib.Omega.{arith}
-use borrow.Author.Tests.{leb-true}
+use borrow.Author.Tests.{le-leb, lt-leb, leb-true}
 use lib.Dec.{leb}
 use lib.ListN.{length, getD, drop}
 use Rattle.laws.specs.Result.{Result, refused, accepted, _>>=_, _>>_, refuse_unless_}
@@ -16,11 +16,11 @@ use Rattle.varint.specs.declared.Read.the-variants as read
 use Rattle.varint.specs.Number.{readNumber}
 use Rattle.varint.specs.Place.{readingOf, nextWithin}
 use Rattle.varint.proofs.Reading.{written-read}
-use Rattle.volume.specs.declared.ValueFound.{ValueFound}
-use Rattle.volume.specs.declared.NumberFound.{NumberFound}
-use Rattle.volume.specs.Volume.{Range, inRange, mostGroups}
+use Rattle.volume.specs.declared.reading.ValueFound.{ValueFound}
+use Rattle.volume.specs.declared.reading.NumberFound.{NumberFound}
+use Rattle.volume.specs.Volume.{Range, _to_, inRange, mostGroups}
 use Rattle.volume.specs.Calls.{ValueRead, numberRead, readValue}
-use Rattle.volume.specs.Found.{valueIs, ranged, NumberThere}
+use Rattle.volume.specs.Found.{valueIs, ranged, NumberReadAgain}
 
 -- a value that is read is in its range
 pub ranged-value : (b : Bool) (read v : ValueRead) → ((refuse 15 unless b) >> accepted read) ≡ accepted v → (b ≡ true) × (read ≡ v)
@@ -36,6 +36,15 @@ value-ranged range (accepted read) v e =
 pub value-in-range : (range : Range) (string : List ℕ) (v : ValueRead) → readValue range string ≡ accepted v → inRange range (v .value) ≡ true
 unfolding readValue
 value-in-range range string v e = value-ranged range (numberRead (readNumber mostGroups string)) v e
+
+pub range-holds : (least most n : ℕ) → least ≤ n → n ≤ most → inRange (least to most) n ≡ true
+range-holds least most n l m = rw (le-leb least n l, le-leb n most m)
+
+pub range-below : (least most n : ℕ) → n < least → inRange (least to most) n ≡ false
+range-below least most n l = rw (lt-leb least n l)
+
+pub range-above : (least most n : ℕ) → least ≤ n → most < n → inRange (least to most) n ≡ false
+range-above least most n l m = rw (le-leb least n l, lt-leb n most m)
 
 pub range-most : (range : Range) (n : ℕ) → inRange range n ≡ true → n ≤ range .most
 range-most range n e = leb-true n (range .most) (and-right (leb (range .least) n) _ e)
@@ -83,7 +92,7 @@ module _ (string : List ℕ) (at : ℕ) where
   again read.Malformed = record { value = 0; next = 0 }
 
   abbrev Again : NumberFound → Type 0
-  Again r = NumberThere string at r × (r .next ≤ length string)
+  Again r = NumberReadAgain string at r × (r .next ≤ length string)
 
   again-is : (f : Read) → readingOf string f ≡ readNumber mostGroups (drop at string) → nextWithin at (length string) f → Again (again f)
   unfolding readValue

@@ -70,6 +70,12 @@ entriesIn string = do
   refuse 16 unless isEmpty (read .rest)
   accepted (read .entries)
 
+-- whether a string is a volume
+unfoldable pub checkVolume : (string : List ℕ) → Result (Unit {0})
+checkVolume string = do
+  entriesIn string
+  accepted tt
+
 pub record VolumeRead : Type 0 where
   pub count : ℕ
   pub list : List ℕ

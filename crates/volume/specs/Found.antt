@@ -7,11 +7,11 @@ use lib.ListN.{length, getD, drop}
 use Rattle.laws.specs.Lent.{putFirst}
 use Rattle.laws.specs.Result.{Result, accepted, resultOf, _>>=_, _>>_, refuse_unless_}
 use Rattle.volume.specs.declared.Entry.{Entry}
-use Rattle.volume.specs.declared.ValueFound.{ValueFound}
-use Rattle.volume.specs.declared.PlaceFound.{PlaceFound}
-use Rattle.volume.specs.declared.NumberFound.{NumberFound}
-use Rattle.volume.specs.declared.EntryFound.{EntryFound}
-use Rattle.volume.specs.declared.CountFound.{CountFound}
+use Rattle.volume.specs.declared.reading.ValueFound.{ValueFound}
+use Rattle.volume.specs.declared.reading.PlaceFound.{PlaceFound}
+use Rattle.volume.specs.declared.reading.NumberFound.{NumberFound}
+use Rattle.volume.specs.declared.reading.EntryFound.{EntryFound}
+use Rattle.volume.specs.declared.reading.CountFound.{CountFound}
 use Rattle.volume.specs.Volume.{Range, inRange, countRange, entriesInRange, entriesString, numbersOf}
 use Rattle.volume.specs.Calls.{ValueRead, EntryRead, EntriesRead, readValue, readEntry, readEntries, isEmpty, entriesIn}
 
@@ -30,13 +30,13 @@ afterEntry string = do
   accepted (read .rest)
 
 -- a number or an entry from a place on, where there is one that is in its range
-abbrev pub NumberThere : (string : List ℕ) (at : ℕ) → NumberFound → Type 0
-NumberThere string at r =
+abbrev pub NumberReadAgain : (string : List ℕ) (at : ℕ) → NumberFound → Type 0
+NumberReadAgain string at r =
     (range : Range) (found : ValueRead) → readValue range (drop at string) ≡ accepted found
     → found ≡ record { value = r .value; rest = drop (r .next) string }
 
-abbrev pub EntryThere : (string : List ℕ) (at : ℕ) → EntryFound → Type 0
-EntryThere string at r =
+abbrev pub EntryReadAgain : (string : List ℕ) (at : ℕ) → EntryFound → Type 0
+EntryReadAgain string at r =
     (found : EntryRead) → readEntry (drop at string) ≡ accepted found → found ≡ record { entry = r .entry; rest = drop (r .next) string }
 
 -- a number that was read, where it is in its range
@@ -56,9 +56,10 @@ countIn string = do
   entries ← entriesIn string
   accepted (length entries)
 
--- the count of a volume's entries and the place where they begin, or the refusal
+-- the count of a volume's entries and the place where they begin, or the refusal, with 0 for both
 pub record CountIs (string : List ℕ) (r : CountFound) : Type 0 where
   pub count-is : resultOf (r .refusal) (r .count) ≡ countIn string
+  pub beside : (r .refusal ≡ 0 → ⊥) → r ≡ record { refusal = r .refusal; count = 0; first = 0 }
   pub at-most : r .count ≤ 2000
   pub within : r .first ≤ length string
   pub begins : r .refusal ≡ 0 → readValue countRange string ≡ accepted (record { value = r .count; rest = drop (r .first) string })

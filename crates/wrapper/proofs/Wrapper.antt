@@ -1,4 +1,4 @@
--- What the walks of the seven calls on the caller's head have in common, whatever their other parameters are. A walk of such a call's MIR opens
+-- What the walks of the calls on the caller's head have in common, whatever their other parameters are. A walk of such a call's MIR opens
 -- the borrow of the head, copies the head out, hands it to the engine's call with the other parameters, stores the head that comes back, closes
 -- the borrow at it, and returns the answer.
 -- Assumes nothing.
