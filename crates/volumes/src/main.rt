@@ -1,0 +1,294 @@
+// The cases of document 02 (d), the shift volume: reading, writing and enciphering, a line each, `ok` or `wrong`.
+use table::READ;
+use table::WRITE;
+
+mod enciphering;
+mod lent;
+mod many;
+mod table;
+
+// The volume that is cut, lengthened and put into lists of several sizes has two entries in 14 bytes: 1,000 litres at 525 of product 4 after no
+// minutes, and 20,000 litres at 610 of product 2 after 15 minutes.
+
+// Each number at both ends of its range, and beyond them; and on both sides of where its groups grow in number.
+fn read_ranges() {
+    table::each(
+        READ,
+        b"\
+count 0: 00: 9 gets 0
+count 2000 and nothing more: d0 0f: 9 gets 16
+count 2001 and nothing more: d1 0f: 9 gets 15
+count 2097151: ff ff 7f: 9 gets 15
+smallest entry: 01 00 00 00 01: 9 gets 0, 0 0 0 1
+largest entry: 01 a0 0b a0 8d 06 90 4e 08: 9 gets 0, 1440 100000 10000 8
+minutes 127: 01 7f 00 00 01: 9 gets 0, 127 0 0 1
+minutes 128: 01 80 01 00 00 01: 9 gets 0, 128 0 0 1
+minutes 1440: 01 a0 0b 00 00 01: 9 gets 0, 1440 0 0 1
+minutes 1441: 01 a1 0b 00 00 01: 9 gets 15
+minutes 2097151: 01 ff ff 7f 00 00 01: 9 gets 15
+litres 127: 01 00 7f 00 01: 9 gets 0, 0 127 0 1
+litres 128: 01 00 80 01 00 01: 9 gets 0, 0 128 0 1
+litres 16383: 01 00 ff 7f 00 01: 9 gets 0, 0 16383 0 1
+litres 16384: 01 00 80 80 01 00 01: 9 gets 0, 0 16384 0 1
+litres 100000: 01 00 a0 8d 06 00 01: 9 gets 0, 0 100000 0 1
+litres 100001: 01 00 a1 8d 06 00 01: 9 gets 15
+litres 2097151: 01 00 ff ff 7f 00 01: 9 gets 15
+ratio 127: 01 00 00 7f 01: 9 gets 0, 0 0 127 1
+ratio 128: 01 00 00 80 01 01: 9 gets 0, 0 0 128 1
+ratio 10000: 01 00 00 90 4e 01: 9 gets 0, 0 0 10000 1
+ratio 10001: 01 00 00 91 4e 01: 9 gets 15
+ratio 2097151: 01 00 00 ff ff 7f 01: 9 gets 15
+product 0: 01 00 00 00 00: 9 gets 15
+product 1: 01 00 00 00 01: 9 gets 0, 0 0 0 1
+product 8: 01 00 00 00 08: 9 gets 0, 0 0 0 8
+product 9: 01 00 00 00 09: 9 gets 15
+product 2097151: 01 00 00 00 ff ff 7f: 9 gets 15
+",
+    );
+}
+
+// Numbers with a group more than their value needs, also where the value is out of its range as well; and third groups that announce another.
+fn read_groups() {
+    table::each(
+        READ,
+        b"\
+count 0 in two groups: 80 00: 9 gets 14
+count 0 in three groups: 80 80 00: 9 gets 14
+count 1 in two groups: 81 00 00 00 00 01: 9 gets 14
+count 2000 in three groups: d0 8f 00: 9 gets 14
+count 2001 in three groups: d1 8f 00: 9 gets 14
+minutes 0 in two groups: 01 80 00 00 00 01: 9 gets 14
+minutes 1440 in three groups: 01 a0 8b 00 00 00 01: 9 gets 14
+minutes 1441 in three groups: 01 a1 8b 00 00 00 01: 9 gets 14
+litres 0 in two groups: 01 00 80 00 00 01: 9 gets 14
+litres 127 in two groups: 01 00 ff 00 00 01: 9 gets 14
+litres 16383 in three groups: 01 00 ff ff 00 00 01: 9 gets 14
+litres 100000 in four groups: 01 00 a0 8d 86 00 00 01: 9 gets 14
+litres 100001 in four groups: 01 00 a1 8d 86 00 00 01: 9 gets 14
+ratio 0 in two groups: 01 00 00 80 00 01: 9 gets 14
+ratio 10000 in three groups: 01 00 00 90 ce 00 01: 9 gets 14
+ratio 10001 in three groups: 01 00 00 91 ce 00 01: 9 gets 14
+product 0 in two groups: 01 00 00 00 80 00: 9 gets 14
+product 1 in two groups: 01 00 00 00 81 00: 9 gets 14
+product 8 in three groups: 01 00 00 00 88 80 00: 9 gets 14
+product 9 in two groups: 01 00 00 00 89 00: 9 gets 14
+count, third group announces another: 81 80 80 01 00 00 00 01: 9 gets 14
+count, third group announces another, at the end: 80 80 80: 9 gets 14
+minutes, third group announces another: 01 80 80 80 01 00 00 01: 9 gets 14
+minutes, third group announces another, at the end: 01 80 80 80: 9 gets 14
+litres, third group announces another: 01 00 80 80 80 01 00 01: 9 gets 14
+litres, third group announces another, at the end: 01 00 80 80 80: 9 gets 14
+ratio, third group announces another: 01 00 00 80 80 80 01 01: 9 gets 14
+ratio, third group announces another, at the end: 01 00 00 80 80 80: 9 gets 14
+product, third group announces another: 01 00 00 00 81 80 80 01: 9 gets 14
+product, third group announces another, at the end: 01 00 00 00 81 80 80: 9 gets 14
+",
+    );
+}
+
+// The volume cut at every byte; numbers that are cut inside, also where no further group could bring them into their range; bytes after the volume;
+// and lists of several sizes.
+fn read_ends() {
+    table::each(
+        READ,
+        b"\
+cut at 0:: 9 gets 16
+cut at 1: 02: 9 gets 16
+cut at 2: 02 00: 9 gets 16
+cut at 3: 02 00 e8: 9 gets 16
+cut at 4: 02 00 e8 07: 9 gets 16
+cut at 5: 02 00 e8 07 8d: 9 gets 16
+cut at 6: 02 00 e8 07 8d 04: 9 gets 16
+cut at 7: 02 00 e8 07 8d 04 04: 9 gets 16
+cut at 8: 02 00 e8 07 8d 04 04 0f: 9 gets 16
+cut at 9: 02 00 e8 07 8d 04 04 0f a0: 9 gets 16
+cut at 10: 02 00 e8 07 8d 04 04 0f a0 9c: 9 gets 16
+cut at 11: 02 00 e8 07 8d 04 04 0f a0 9c 01: 9 gets 16
+cut at 12: 02 00 e8 07 8d 04 04 0f a0 9c 01 e2: 9 gets 16
+cut at 13: 02 00 e8 07 8d 04 04 0f a0 9c 01 e2 04: 9 gets 16
+count cut after a group: 80: 9 gets 16
+count cut after two groups: ff ff: 9 gets 16
+minutes cut after a group: 01 a1: 9 gets 16
+minutes cut after two groups: 01 80 80: 9 gets 16
+litres cut after two groups: 01 00 ff ff: 9 gets 16
+ratio cut after two groups: 01 00 00 80 80: 9 gets 16
+product cut after a group: 01 00 00 00 80: 9 gets 16
+product cut after two groups: 01 00 00 00 89 80: 9 gets 16
+a byte after no entry: 00 00: 9 gets 16
+a byte after an entry: 01 00 00 00 01 00: 9 gets 16
+an entry after an entry: 01 00 00 00 01 00 00 00 01: 9 gets 16
+a byte after two entries: 02 00 e8 07 8d 04 04 0f a0 9c 01 e2 04 02 00: 9 gets 16
+three bytes after two entries: 02 00 e8 07 8d 04 04 0f a0 9c 01 e2 04 02 ff ff ff: 9 gets 16
+a byte after two entries, list one short: 02 00 e8 07 8d 04 04 0f a0 9c 01 e2 04 02 00: 7 gets 16
+a byte after two entries, empty list: 02 00 e8 07 8d 04 04 0f a0 9c 01 e2 04 02 00: 0 gets 16
+two entries, empty list: 02 00 e8 07 8d 04 04 0f a0 9c 01 e2 04 02: 0 gets 8
+two entries, list for one: 02 00 e8 07 8d 04 04 0f a0 9c 01 e2 04 02: 4 gets 8
+two entries, list one short: 02 00 e8 07 8d 04 04 0f a0 9c 01 e2 04 02: 7 gets 8
+two entries, list just long enough: 02 00 e8 07 8d 04 04 0f a0 9c 01 e2 04 02: 8 gets 0, 0 1000 525 4 15 20000 610 2
+two entries, list one longer: 02 00 e8 07 8d 04 04 0f a0 9c 01 e2 04 02: 9 gets 0, 0 1000 525 4 15 20000 610 2
+two entries, list for four: 02 00 e8 07 8d 04 04 0f a0 9c 01 e2 04 02: 16 gets 0, 0 1000 525 4 15 20000 610 2
+an entry, list one short: 01 00 00 00 01: 3 gets 8
+an entry, list just long enough: 01 00 00 00 01: 4 gets 0, 0 0 0 1
+no entry, empty list: 00: 0 gets 0
+",
+    );
+}
+
+// Two faults: the first in reading order gives the refusal number, and a short list comes last.
+fn read_order() {
+    table::each(
+        READ,
+        b"\
+count 2001, minutes malformed: d1 0f 80 00: 9 gets 15
+count malformed, minutes 1441: 81 00 a1 0b 00 00 01: 9 gets 14
+minutes 1441, litres malformed: 01 a1 0b 80 00 00 01: 9 gets 15
+minutes malformed, litres 100001: 01 80 00 a1 8d 06 00 01: 9 gets 14
+litres 100001, ratio malformed: 01 00 a1 8d 06 80 00 01: 9 gets 15
+litres malformed, ratio 10001: 01 00 80 00 91 4e 01: 9 gets 14
+ratio 10001, product malformed: 01 00 00 91 4e 81 00: 9 gets 15
+ratio malformed, product 9: 01 00 00 80 00 09: 9 gets 14
+product 9, next minutes malformed: 02 00 00 00 09 80 00 00 00 01: 9 gets 15
+product malformed, next minutes 1441: 02 00 00 00 81 00 a1 0b 00 00 01: 9 gets 14
+minutes 1441, litres in four groups: 01 a1 0b 80 80 80 01 00 01: 9 gets 15
+minutes in four groups, litres 100001: 01 80 80 80 01 a1 8d 06 00 01: 9 gets 14
+minutes 1441 and nothing more: 01 a1 0b: 9 gets 15
+litres 100001 and nothing more: 01 00 a1 8d 06: 9 gets 15
+ratio 10001 and nothing more: 01 00 00 91 4e: 9 gets 15
+product 9 and nothing more: 02 00 00 00 09: 9 gets 15
+minutes malformed and nothing more: 01 80 00: 9 gets 14
+litres malformed and nothing more: 01 00 80 00: 9 gets 14
+ratio malformed and nothing more: 01 00 00 80 00: 9 gets 14
+product malformed and nothing more: 02 00 00 00 81 00: 9 gets 14
+product 9 and a byte after the entry: 01 00 00 00 09 00: 9 gets 15
+product malformed and a byte after the entry: 01 00 00 00 81 00 00: 9 gets 14
+product 9, empty list: 01 00 00 00 09: 0 gets 15
+product malformed, empty list: 01 00 00 00 81 00: 0 gets 14
+product missing, empty list: 01 00 00 00: 0 gets 16
+next minutes 1441, list for one: 02 00 00 00 01 a1 0b 00 00 01: 4 gets 15
+next minutes malformed, list for one: 02 00 00 00 01 80 00 00 00 01: 4 gets 14
+next minutes missing, list for one: 02 00 00 00 01: 4 gets 16
+",
+    );
+}
+
+// Each number at both ends of its range, and beyond them; and on both sides of where its groups grow in number. Then lists that are not whole
+// entries; lent bytes of several lengths; and two faults, of which the first gives the refusal number.
+fn write() {
+    table::each(
+        WRITE,
+        b"\
+smallest entry: 01 00 00 00 01: 9 gets 0, 0 0 0 1
+largest entry: 01 a0 0b a0 8d 06 90 4e 08: 9 gets 0, 1440 100000 10000 8
+minutes 127: 01 7f 00 00 01: 9 gets 0, 127 0 0 1
+minutes 128: 01 80 01 00 00 01: 9 gets 0, 128 0 0 1
+minutes 1440: 01 a0 0b 00 00 01: 9 gets 0, 1440 0 0 1
+minutes 1441:: 9 gets 15, 1441 0 0 1
+minutes 4294967295:: 9 gets 15, 4294967295 0 0 1
+litres 127: 01 00 7f 00 01: 9 gets 0, 0 127 0 1
+litres 128: 01 00 80 01 00 01: 9 gets 0, 0 128 0 1
+litres 16383: 01 00 ff 7f 00 01: 9 gets 0, 0 16383 0 1
+litres 16384: 01 00 80 80 01 00 01: 9 gets 0, 0 16384 0 1
+litres 100000: 01 00 a0 8d 06 00 01: 9 gets 0, 0 100000 0 1
+litres 100001:: 9 gets 15, 0 100001 0 1
+litres 4294967295:: 9 gets 15, 0 4294967295 0 1
+ratio 127: 01 00 00 7f 01: 9 gets 0, 0 0 127 1
+ratio 128: 01 00 00 80 01 01: 9 gets 0, 0 0 128 1
+ratio 10000: 01 00 00 90 4e 01: 9 gets 0, 0 0 10000 1
+ratio 10001:: 9 gets 15, 0 0 10001 1
+ratio 4294967295:: 9 gets 15, 0 0 4294967295 1
+product 0:: 9 gets 15, 0 0 0 0
+product 1: 01 00 00 00 01: 9 gets 0, 0 0 0 1
+product 8: 01 00 00 00 08: 9 gets 0, 0 0 0 8
+product 9:: 9 gets 15, 0 0 0 9
+product 4294967295:: 9 gets 15, 0 0 0 4294967295
+next minutes 1441:: 16 gets 15, 0 0 0 1 1441 0 0 1
+next product 0:: 16 gets 15, 0 0 0 1 0 0 0 0
+one number:: 9 gets 16, 0
+two numbers:: 9 gets 16, 0 0
+three numbers:: 9 gets 16, 0 0 0
+five numbers:: 9 gets 16, 0 0 0 1 0
+six numbers:: 9 gets 16, 0 0 0 1 0 0
+seven numbers:: 9 gets 16, 0 0 0 1 0 0 0
+one number, out of range, none lent:: 0 gets 16, 1441
+two numbers, out of range, none lent:: 0 gets 16, 1441 100001
+three numbers, out of range, none lent:: 0 gets 16, 1441 100001 10001
+five numbers, out of range, none lent:: 0 gets 16, 1441 100001 10001 0 1441
+six numbers, out of range, none lent:: 0 gets 16, 1441 100001 10001 0 1441 100001
+seven numbers, out of range, none lent:: 0 gets 16, 1441 100001 10001 0 1441 100001 10001
+minutes 1441, none lent:: 0 gets 15, 1441 0 0 1
+litres 100001, none lent:: 0 gets 15, 0 100001 0 1
+ratio 10001, none lent:: 0 gets 15, 0 0 10001 1
+product 0, none lent:: 0 gets 15, 0 0 0 0
+next product 9, none lent:: 0 gets 15, 0 0 0 1 0 0 0 9
+two entries, none lent:: 0 gets 8, 0 1000 525 4 15 20000 610 2
+two entries, lent for one:: 7 gets 8, 0 1000 525 4 15 20000 610 2
+two entries, one byte too few:: 13 gets 8, 0 1000 525 4 15 20000 610 2
+two entries, just enough lent: 02 00 e8 07 8d 04 04 0f a0 9c 01 e2 04 02: 14 gets 0, 0 1000 525 4 15 20000 610 2
+two entries, one byte more: 02 00 e8 07 8d 04 04 0f a0 9c 01 e2 04 02: 15 gets 0, 0 1000 525 4 15 20000 610 2
+two entries, ten bytes more: 02 00 e8 07 8d 04 04 0f a0 9c 01 e2 04 02: 24 gets 0, 0 1000 525 4 15 20000 610 2
+no entry, none lent:: 0 gets 8
+no entry, one byte lent: 00: 1 gets 0
+no entry, nine bytes lent: 00: 9 gets 0
+",
+    );
+}
+
+// Enciphering from 0, from inside a word, on both sides of the mark, of no entry, and up to the limit. Then each refusal of cipher, where the volume
+// is sound, and each of the volume's before it; and cipher's own, each before the next.
+fn encipher(code: u32) {
+    table::each(
+        code,
+        b"\
+two from 0: 02 00 e8 07 8d 04 04 0f a0 9c 01 e2 04 02: 1 at 0 mark 0 change 0 short 0 gets 0 at 14 mark 14, 0 1000 525 4 15 20000 610 2
+two from 14: 02 00 e8 07 8d 04 04 0f a0 9c 01 e2 04 02: 1 at 14 mark 14 change 0 short 0 gets 0 at 28 mark 28, 0 1000 525 4 15 20000 610 2
+two below the mark: 02 00 e8 07 8d 04 04 0f a0 9c 01 e2 04 02: 1 at 3 mark 28 change 0 short 0 gets 0 at 17 mark 28, 0 1000 525 4 15 20000 610 2
+two across the mark: 02 00 e8 07 8d 04 04 0f a0 9c 01 e2 04 02: 1 at 3 mark 16 change 0 short 0 gets 0 at 17 mark 17, 0 1000 525 4 15 20000 610 2
+no entry: 00: 1 at 7 mark 7 change 0 short 0 gets 0 at 8 mark 8
+to the limit: 01 00 00 00 01: 1 at 67108859 mark 9 change 0 short 0 gets 0 at 67108864 mark 67108864, 0 0 0 1
+to the limit, mark over it: 01 00 00 00 01: 1 at 67108859 mark 4294967295 change 0 short 0 gets 0 at 67108864 mark 4294967295, 0 0 0 1
+fresh head, volume cut: 01 00 00 00: 0 at 0 mark 0 change 0 short 0 gets 16
+fresh head, a byte after the volume: 01 00 00 00 01 00: 0 at 0 mark 0 change 0 short 0 gets 16
+fresh head, product malformed: 01 00 00 00 81 00: 0 at 0 mark 0 change 0 short 0 gets 14
+fresh head, product 9: 01 00 00 00 09: 0 at 0 mark 0 change 0 short 0 gets 15
+fresh head, sound volume: 01 00 00 00 01: 0 at 0 mark 0 change 0 short 0 gets 1
+short area, volume cut: 01 00 00 00: 1 at 20 mark 20 change 0 short 1 gets 16
+short area, a byte after the volume: 01 00 00 00 01 00: 1 at 20 mark 20 change 0 short 1 gets 16
+short area, product malformed: 01 00 00 00 81 00: 1 at 20 mark 20 change 0 short 1 gets 14
+short area, product 9: 01 00 00 00 09: 1 at 20 mark 20 change 0 short 1 gets 15
+short area, sound volume: 01 00 00 00 01: 1 at 20 mark 20 change 0 short 1 gets 4
+over the limit, volume cut: 01 00 00 00: 1 at 67108865 mark 9 change 0 short 0 gets 16
+over the limit, a byte after the volume: 01 00 00 00 01 00: 1 at 67108865 mark 9 change 0 short 0 gets 16
+over the limit, product malformed: 01 00 00 00 81 00: 1 at 67108865 mark 9 change 0 short 0 gets 14
+over the limit, product 9: 01 00 00 00 09: 1 at 67108865 mark 9 change 0 short 0 gets 15
+over the limit, sound volume: 01 00 00 00 01: 1 at 67108865 mark 9 change 0 short 0 gets 5
+false word, volume cut: 01 00 00 00: 1 at 20 mark 20 change 1 short 0 gets 16
+false word, a byte after the volume: 01 00 00 00 01 00: 1 at 20 mark 20 change 1 short 0 gets 16
+false word, product malformed: 01 00 00 00 81 00: 1 at 20 mark 20 change 1 short 0 gets 14
+false word, product 9: 01 00 00 00 09: 1 at 20 mark 20 change 1 short 0 gets 15
+false word, sound volume: 01 00 00 00 01: 1 at 20 mark 20 change 1 short 0 gets 13
+at the limit, volume cut: 01 00 00 00: 1 at 67108864 mark 9 change 0 short 0 gets 16
+at the limit, a byte after the volume: 01 00 00 00 01 00: 1 at 67108864 mark 9 change 0 short 0 gets 16
+at the limit, product malformed: 01 00 00 00 81 00: 1 at 67108864 mark 9 change 0 short 0 gets 14
+at the limit, product 9: 01 00 00 00 09: 1 at 67108864 mark 9 change 0 short 0 gets 15
+at the limit, sound volume: 01 00 00 00 01: 1 at 67108864 mark 9 change 0 short 0 gets 6
+fresh head and short area: 01 00 00 00 01: 0 at 0 mark 0 change 0 short 1 gets 1
+over the limit and short area: 01 00 00 00 01: 1 at 67108865 mark 9 change 0 short 1 gets 4
+over the limit and false word: 01 00 00 00 01: 1 at 67108865 mark 9 change 1 short 0 gets 5
+false word at 0: 01 00 00 00 01: 1 at 0 mark 0 change 1 short 0 gets 13
+at the limit and false word: 01 00 00 00 01: 1 at 67108864 mark 9 change 1 short 0 gets 13
+to one byte past the limit: 01 00 00 00 01: 1 at 67108860 mark 9 change 0 short 0 gets 6
+",
+    );
+}
+
+fn main() {
+    read_ranges();
+    read_groups();
+    read_ends();
+    read_order();
+    write();
+    many::most();
+    many::over();
+    encipher(1);
+    encipher(2);
+}
