@@ -78,6 +78,13 @@ extern "C" {
 #define HC_ENTRY_NUMBERS 4
 #define HC_VOLUME_BYTES 16002
 
+/* The component duty: for an entry litres times ratio times the rate of its product, divided by 10,000 and cut down to whole cents; for a volume the
+ * sum over its entries. The rates, in cents per litre:
+ *     product   1    2   3   4   5   6   7   8
+ *     rate      120  95  95  60  40  40  15  0
+ * HC_MOST_DUTY is the greatest duty of any volume, in cents: 2,000 entries of 100,000 litres at 10,000 of product 1. It does not fit 32 bits. */
+#define HC_MOST_DUTY 24000000000
+
 enum hc_refusal {
     HC_OK = 0,
     HC_BAD_CODE = 1,       /* the cipher code is neither 1 nor 2; a head before set up or load has code 0 */
@@ -124,6 +131,12 @@ struct hc_words {
 struct hc_count {
     uint64_t refusal;
     uint64_t count;
+};
+
+/* What hc_volume_duty returns. cents is 0 where the call is refused. */
+struct hc_duty {
+    uint64_t refusal;
+    uint64_t cents;
 };
 
 /* Set up: fills the area from a key and an IV, and the head becomes the given code and word 0 at position 0 with mark 0, whatever it was.
@@ -200,6 +213,10 @@ struct hc_count hc_read_volume(const uint8_t *volume, size_t volume_bytes, uint3
  *         refusal = hc_encipher_volume(&head, area, HC_128_AREA_WORDS, volume, written.length);
  */
 uint64_t hc_encipher_volume(struct hc_head *head, uint32_t *area, size_t area_words, uint8_t *volume, size_t volume_bytes);
+
+/* Volume duty: the component duty on a volume, in whole cents. volume is the volume as hc_write_volume wrote it, not enciphered, and no byte more.
+ * Refusals: 16, 14, 15 as hc_read_volume. */
+struct hc_duty hc_volume_duty(const uint8_t *volume, size_t volume_bytes);
 
 #ifdef __cplusplus
 }

@@ -9,6 +9,7 @@ use Rattle.cipher.specs.Numbers.{byCode, areaLength, keyLength, ivLength}
 use Rattle.varint.specs.Number.{readNumber}
 use Rattle.volume.specs.Volume.{inRange, countRange, entriesInRange, volumeString, entriesOf}
 use Rattle.volume.specs.Calls.{entriesIn, readVolume, readVolumeCall, writeVolume, writeVolumeCall}
+use Rattle.duty.specs.Calls.{volumeDuty, volumeDutyCall}
 use Rattle.checkpoint.specs.Checkpoint.{mostGroups, lengthOf}
 use Rattle.conditions.specs.Limit.{limit}
 use Rattle.conditions.specs.Conditions.{setUpCheck, headCheck, cipherCheck, within, endOf, moveCheck, undoAt, foundOr12, recoverCheck, positionRead, firstByte, loadCheck}
@@ -17,7 +18,7 @@ use Rattle.theorems.specs.Demand1.{Demand1}
 use Rattle.theorems.proofs.Within.{by-none, first, after, then-line, line-unless, line-without, first-line, answers, word-within, head-within, found-within, end-within, position-within, volume-within}
 
 pub demand1 : Demand1
-unfolding setUpCall setUp setUpCheck cipherCall cipher cipherCheck encipherVolumeCall encipherVolume moveCall move moveCheck endOf writeCall write checkpointLengthCall checkpointLength recoverCall recover recoverCheck loadCall load loadCheck spentCall spent writeVolumeCall writeVolume readVolumeCall readVolume
+unfolding setUpCall setUp setUpCheck cipherCall cipher cipherCheck encipherVolumeCall encipherVolume moveCall move moveCheck endOf writeCall write checkpointLengthCall checkpointLength recoverCall recover recoverCheck loadCall load loadCheck spentCall spent writeVolumeCall writeVolume readVolumeCall readVolume volumeDutyCall volumeDuty
 demand1 = record {
   of-set-up = λ h code key iv area.
       answers _ (setUp code key iv area)
@@ -96,4 +97,7 @@ demand1 = record {
       answers _ (readVolume string list)
       (then-line (entriesIn string) _ (volume-within first (after first) (after (after first)) string) λ entries.
       line-unless 8 (leb (4 * length entries) (length list)) _ (after (after (after (after first)))) by-none);
+  of-volume-duty = λ string.
+      answers _ (volumeDuty string)
+      (then-line (entriesIn string) _ (volume-within first (after first) (after (after first)) string) λ entries. by-none);
 }

@@ -18,6 +18,7 @@ pub mod Compares
 pub mod HeadWord
 pub mod HeadMark
 pub mod ShiftVolume
+pub mod ComponentDuty
 pub mod Demand3
 pub mod CheckpointLength
 pub mod Refusal12

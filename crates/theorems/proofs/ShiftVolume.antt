@@ -22,7 +22,8 @@ use Rattle.volume.specs.Calls.{entriesIn, VolumeRead, readVolume, VolumeWritten
 use Rattle.volume.proofs.Entries.{numbers-length, entries-numbers, numbers-entries}
 use Rattle.volume.proofs.Values.{range-holds, range-most, range-least}
 use Rattle.volume.proofs.Measuring.{entry-length}
-use Rattle.volume.proofs.Undo.{minutes-in, litres-in, ratio-in, product-in, volume-back, volume-was, reads-back, writes-back}
+use Rattle.volume.proofs.Ranges.{minutes-in, litres-in, ratio-in, product-in}
+use Rattle.volume.proofs.Undo.{volume-back, volume-was, reads-back, writes-back}
 use Rattle.volume.proofs.Shows.{read-shows, read-accepts, write-lines, write-shows, write-accepts}
 use Rattle.engine.specs.declared.Head.{Head}
 use Rattle.engine.specs.Calls.{Engine, Ciphered, encipherVolumeCall, encipherVolume}

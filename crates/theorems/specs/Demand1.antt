@@ -7,6 +7,7 @@ use Prim.Native.Nat.{ℕ}
 use lib.IntN.{ℤ}
 use lib.ListN.{replicate}
 use Rattle.volume.specs.Calls.{readVolume, readVolumeCall, writeVolume, writeVolumeCall}
+use Rattle.duty.specs.Calls.{volumeDuty, volumeDutyCall}
 use Rattle.laws.specs.Result.{Result, refused, accepted, Outcome}
 use Rattle.engine.specs.declared.Head.{Head}
 use Rattle.engine.specs.Calls.{engineOf, setUp, cipher, encipherVolume, move, write, checkpointLength, recover, load, spent}
@@ -67,3 +68,4 @@ pub record Demand1 : Type 0 where
   pub of-read-volume :
       (string list : List ℕ)
       → AcceptedOrRefused (16 ∷ 14 ∷ 15 ∷ 16 ∷ 8 ∷ []) (record { count = 0; list = list }) (readVolume string list) (readVolumeCall string list)
+  pub of-volume-duty : (string : List ℕ) → AcceptedOrRefused (16 ∷ 14 ∷ 15 ∷ 16 ∷ []) 0 (volumeDuty string) (volumeDutyCall string)

@@ -13,3 +13,4 @@ pub mod CheckpointLength
 pub mod HeadWord
 pub mod HeadMark
 pub mod ShiftVolume
+pub mod ComponentDuty

@@ -22,20 +22,21 @@ whole r = do
   refuse 16 unless isEmpty (read .rest)
   accepted (read .entries)
 
-rest-refused : (entries : List Entry) (rest : List ℕ) (m : ℕ) → (refuse 16 unless isEmpty rest) ≡ refused m
+rest-refused : (entries : List Entry) (rest : List ℕ) (m : ℕ) → ((refuse 16 unless isEmpty rest) >> accepted (tt {0})) ≡ refused m
     → ((refuse 16 unless isEmpty rest) >> accepted entries) ≡ refused m
 rest-refused entries [] m e = no-refusal e
 rest-refused entries (b ∷ rest) m e = cc
 
-rest-accepted : (rest : List ℕ) → (refuse 16 unless isEmpty rest) ≡ accepted tt → rest ≡ []
+rest-accepted : (rest : List ℕ) → ((refuse 16 unless isEmpty rest) >> accepted (tt {0})) ≡ accepted tt → rest ≡ []
 rest-accepted [] e = refl
 rest-accepted (b ∷ rest) e = no-refusal (sym e)
 
-whole-refused : (r : Result EntriesRead) (m : ℕ) → (r >>= λ read. refuse 16 unless isEmpty (read .rest)) ≡ refused m → whole r ≡ refused m
+whole-refused : (r : Result EntriesRead) (m : ℕ) → (r >>= λ read. (refuse 16 unless isEmpty (read .rest)) >> accepted (tt {0})) ≡ refused m
+    → whole r ≡ refused m
 whole-refused (refused n) m e = cc
 whole-refused (accepted read) m e = rest-refused (read .entries) (read .rest) m e
 
-whole-accepted : (r : Result EntriesRead) → (r >>= λ read. refuse 16 unless isEmpty (read .rest)) ≡ accepted tt
+whole-accepted : (r : Result EntriesRead) → (r >>= λ read. (refuse 16 unless isEmpty (read .rest)) >> accepted (tt {0})) ≡ accepted tt
     → (read : EntriesRead) × (r ≡ accepted read) × (whole r ≡ accepted (read .entries))
 whole-accepted (refused n) e = no-refusal (sym e)
 whole-accepted (accepted read) e = (read, refl, rw (rest-accepted (read .rest) e))
@@ -60,11 +61,11 @@ module _ (string : List ℕ) where
 
   module _ (n first : ℕ) (number : readValue countRange string ≡ accepted (record { value = n; rest = drop first string })) where
     pub counts-no-entries : (m : ℕ) (r : CountFound) → (m ≡ 0 → ⊥) → r ≡ record { refusal = m; count = 0; first = 0 }
-        → entriesOnly n (drop first string) ≡ refused m → CountIs string r
+        → entriesOnly (λ _. tt {0}) n (drop first string) ≡ refused m → CountIs string r
     unfolding entriesIn entriesOnly
     counts-no-entries m r h e q = counts-no m r h e (rw number (whole-refused (readEntries n (drop first string)) m q))
 
-    pub counts : first ≤ length string → entriesOnly n (drop first string) ≡ accepted tt
+    pub counts : first ≤ length string → entriesOnly (λ _. tt {0}) n (drop first string) ≡ accepted tt
         → CountIs string (record { refusal = 0; count = n; first = first })
     unfolding countIn entriesIn entriesOnly
     counts h q =

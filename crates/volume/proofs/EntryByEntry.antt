@@ -11,7 +11,7 @@ use Rattle.laws.proofs.Results.{block-in-block, same-lines, after-line, no-refu
 use Rattle.volume.specs.declared.Entry.{Entry}
 use Rattle.volume.specs.Volume.{numbersOf}
 use Rattle.volume.specs.Calls.{EntryRead, EntriesRead, readEntry, readEntries, isEmpty}
-use Rattle.volume.specs.Found.{entriesOnly, afterEntry}
+use Rattle.volume.specs.Found.{entriesOnly}
 
 -- the first entry before others
 abbrev pub joined : EntryRead → EntriesRead → EntriesRead
@@ -28,39 +28,48 @@ entries-suc n string = refl
 
 -- ---- n entries and nothing after them
 
-only-zero : (string : List ℕ) → entriesOnly 0 string ≡ (refuse 16 unless isEmpty string)
-unfolding entriesOnly
-only-zero string = rw (entries-zero string)
+-- the value of the first entry and the others, as a value of the others
+abbrev pub after : {A : Type 0} → (List Entry → A) → Entry → List Entry → A
+after value e entries = value (e ∷ entries)
 
-only-suc : (n : ℕ) (string : List ℕ) → entriesOnly (suc n) string ≡ (afterEntry string >>= entriesOnly n)
-unfolding entriesOnly afterEntry
-only-suc n string =
-    rw (entries-suc n string)
-    (block-in-block (readEntry string) _ _
-    ∙ same-lines (readEntry string) _ _ (λ first. block-in-block (readEntries n (first .rest)) _ _)
-    ∙ sym (block-in-block (readEntry string) _ _))
+module _ {A : Type 0} where
+  only-zero : (value : List Entry → A) (string : List ℕ) → entriesOnly value 0 string ≡ ((refuse 16 unless isEmpty string) >> accepted (value []))
+  unfolding entriesOnly
+  only-zero value string = rw (entries-zero string)
 
--- what a loop over the entries keeps: from where it has come, it finds what it finds from the start
-module _ (n : ℕ) (whole : List ℕ) where
-  abbrev pub Comes : ℕ → List ℕ → Type 0
-  Comes k rest = entriesOnly n whole ≡ entriesOnly (n - k) rest
+  only-suc : (value : List Entry → A) (n : ℕ) (string : List ℕ)
+      → entriesOnly value (suc n) string ≡ (readEntry string >>= λ first. entriesOnly (after value (first .entry)) n (first .rest))
+  unfolding entriesOnly
+  only-suc value n string =
+      rw (entries-suc n string)
+      (block-in-block (readEntry string) _ _ ∙ same-lines (readEntry string) _ _ (λ first. block-in-block (readEntries n (first .rest)) _ _))
 
-  pub only-starts : Comes 0 whole
-  only-starts = let e : n - 0 ≡ n = omega arith in rw e
+  pub only-same : (value other : List Entry → A) (n : ℕ) (string : List ℕ) → ((entries : List Entry) → value entries ≡ other entries)
+      → entriesOnly value n string ≡ entriesOnly other n string
+  unfolding entriesOnly
+  only-same value other n string h = same-lines (readEntries n string) _ _ (λ read. rw (h (read .entries)))
 
-  module _ (k : ℕ) (rest : List ℕ) (come : Comes k rest) where
-    pub only-turns : {next : List ℕ} → k < n → afterEntry rest ≡ accepted next → Comes (k + 1) next
-    only-turns {next} l r =
-        let m : n - k ≡ suc (n - (k + 1)) = omega arith in
-        come ∙ ap (λ (j : ℕ). entriesOnly j rest) m ∙ only-suc (n - (k + 1)) rest ∙ rw r
+  -- what a loop over the entries keeps: from where it has come it finds, with `left` for the value of those that are left, what it finds from the start
+  module _ (value : List Entry → A) (n : ℕ) (whole : List ℕ) where
+    abbrev pub Comes : ℕ → List ℕ → (left : List Entry → A) → Type 0
+    Comes k rest left = entriesOnly value n whole ≡ entriesOnly left (n - k) rest
 
-    pub only-refused : {m : ℕ} → k < n → afterEntry rest ≡ refused m → entriesOnly n whole ≡ refused m
-    only-refused {m} l r =
-        let e : n - k ≡ suc (n - (k + 1)) = omega arith in
-        come ∙ ap (λ (j : ℕ). entriesOnly j rest) e ∙ only-suc (n - (k + 1)) rest ∙ rw r
+    pub only-starts : Comes 0 whole value
+    only-starts = let e : n - 0 ≡ n = omega arith in rw e
 
-    pub only-ends : n ≤ k → entriesOnly n whole ≡ (refuse 16 unless isEmpty rest)
-    only-ends l = let e : n - k ≡ 0 = omega arith in come ∙ ap (λ (j : ℕ). entriesOnly j rest) e ∙ only-zero rest
+    module _ (k : ℕ) (rest : List ℕ) (left : List Entry → A) (come : Comes k rest left) where
+      pub only-turns : {first : EntryRead} → k < n → readEntry rest ≡ accepted first → Comes (k + 1) (first .rest) (after left (first .entry))
+      only-turns {first} l r =
+          let m : n - k ≡ suc (n - (k + 1)) = omega arith in
+          come ∙ ap (λ (j : ℕ). entriesOnly left j rest) m ∙ only-suc left (n - (k + 1)) rest ∙ rw r
+
+      pub only-refused : {m : ℕ} → k < n → readEntry rest ≡ refused m → entriesOnly value n whole ≡ refused m
+      only-refused {m} l r =
+          let e : n - k ≡ suc (n - (k + 1)) = omega arith in
+          come ∙ ap (λ (j : ℕ). entriesOnly left j rest) e ∙ only-suc left (n - (k + 1)) rest ∙ rw r
+
+      pub only-ends : n ≤ k → entriesOnly value n whole ≡ ((refuse 16 unless isEmpty rest) >> accepted (left []))
+      only-ends l = let e : n - k ≡ 0 = omega arith in come ∙ ap (λ (j : ℕ). entriesOnly left j rest) e ∙ only-zero left rest
 
 -- whether a place is at the string's end
 pub at-end : (string : List ℕ) (at : ℕ) → at ≡ length string → isEmpty (drop at string) ≡ true

@@ -7,18 +7,15 @@ use borrow.Author.Tests.{eq-eqb, ne-eqb}
 use lib.ListN.{length, drop}
 use Rattle.laws.specs.Result.{refused, accepted, _>>=_}
 use Rattle.laws.proofs.Results.{after-line, no-refusal, accepted-one}
-use Rattle.volume.specs.declared.reading.PlaceFound.{PlaceFound}
+use Rattle.volume.specs.declared.reading.EntryChecked.{EntryChecked}
 use Rattle.volume.specs.declared.reading.NumberFound.{NumberFound}
 use Rattle.volume.specs.Volume.{minutesRange, litresRange, ratioRange, productRange}
 use Rattle.volume.specs.Calls.{ValueRead, EntryRead, readValue, readEntry}
-use Rattle.volume.specs.Found.{placeIs, afterEntry, NumberReadAgain, EntryReadAgain}
+use Rattle.volume.specs.Found.{entryIs, noEntry, NumberReadAgain, EntryReadAgain}
 
 -- what `check_entry` ensures of its answer
-abbrev pub Found : (string rest : List ℕ) → PlaceFound → Type 0
-Found string rest r = (placeIs string r ≡ afterEntry rest) × (r .next ≤ length string)
-
-abbrev pub noPlace : ℕ → PlaceFound
-noPlace m = record { refusal = m; next = 0 }
+abbrev pub Found : (string rest : List ℕ) → EntryChecked → Type 0
+Found string rest r = (entryIs string r ≡ readEntry rest) × (r .next ≤ length string)
 
 -- the entry of four numbers that were read
 abbrev pub entryOf : (minutes litres ratio product : ValueRead) → EntryRead
@@ -30,35 +27,40 @@ entryOf minutes litres ratio product =
 
 -- the first of the four that is refused, or all of them
 module _ (string rest : List ℕ) where
-  refuses : {m : ℕ} (r : PlaceFound) → (m ≡ 0 → ⊥) → r ≡ noPlace m → afterEntry rest ≡ refused m → Found string rest r
+  refuses : {m : ℕ} (r : EntryChecked) → (m ≡ 0 → ⊥) → r ≡ noEntry m → readEntry rest ≡ refused m → Found string rest r
   refuses {m} r h e q = rw e (rw (ne-eqb m 0 h, q), omega arith)
 
-  pub no-minutes : {m : ℕ} (r : PlaceFound) → (m ≡ 0 → ⊥) → r ≡ noPlace m → readValue minutesRange rest ≡ refused m → Found string rest r
-  unfolding readEntry afterEntry
+  pub no-minutes : {m : ℕ} (r : EntryChecked) → (m ≡ 0 → ⊥) → r ≡ noEntry m → readValue minutesRange rest ≡ refused m → Found string rest r
+  unfolding readEntry
   no-minutes r h e q = refuses r h e (rw q)
 
   module _ (minutes : ValueRead) (is-minutes : readValue minutesRange rest ≡ accepted minutes) where
-    pub no-litres : {m : ℕ} (r : PlaceFound) → (m ≡ 0 → ⊥) → r ≡ noPlace m → readValue litresRange (minutes .rest) ≡ refused m
+    pub no-litres : {m : ℕ} (r : EntryChecked) → (m ≡ 0 → ⊥) → r ≡ noEntry m → readValue litresRange (minutes .rest) ≡ refused m
         → Found string rest r
-    unfolding readEntry afterEntry
+    unfolding readEntry
     no-litres r h e q = refuses r h e (rw (is-minutes, q))
 
     module _ (litres : ValueRead) (is-litres : readValue litresRange (minutes .rest) ≡ accepted litres) where
-      pub no-ratio : {m : ℕ} (r : PlaceFound) → (m ≡ 0 → ⊥) → r ≡ noPlace m → readValue ratioRange (litres .rest) ≡ refused m
+      pub no-ratio : {m : ℕ} (r : EntryChecked) → (m ≡ 0 → ⊥) → r ≡ noEntry m → readValue ratioRange (litres .rest) ≡ refused m
           → Found string rest r
-      unfolding readEntry afterEntry
+      unfolding readEntry
       no-ratio r h e q = refuses r h e (rw (is-minutes, is-litres, q))
 
       module _ (ratio : ValueRead) (is-ratio : readValue ratioRange (litres .rest) ≡ accepted ratio) where
-        pub no-product : {m : ℕ} (r : PlaceFound) → (m ≡ 0 → ⊥) → r ≡ noPlace m → readValue productRange (ratio .rest) ≡ refused m
+        pub no-product : {m : ℕ} (r : EntryChecked) → (m ≡ 0 → ⊥) → r ≡ noEntry m → readValue productRange (ratio .rest) ≡ refused m
             → Found string rest r
-        unfolding readEntry afterEntry
+        unfolding readEntry
         no-product r h e q = refuses r h e (rw (is-minutes, is-litres, is-ratio, q))
 
         pub all-four : (product next : ℕ) → next ≤ length string
             → readValue productRange (ratio .rest) ≡ accepted (record { value = product; rest = drop next string })
-            → Found string rest (record { refusal = 0; next = next })
-        unfolding readEntry afterEntry
+            → Found string rest
+            (record {
+              refusal = 0;
+              entry = record { minutes = minutes .value; litres = litres .value; ratio = ratio .value; product = product };
+              next = next;
+            })
+        unfolding readEntry
         all-four product next h q = (rw (is-minutes, is-litres, is-ratio, q), h)
 
 -- ---- an entry that is accepted

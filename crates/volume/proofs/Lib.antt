@@ -8,4 +8,5 @@ pub mod Volumes
 pub mod Measuring
 pub mod Written
 pub mod Shows
+pub mod Ranges
 pub mod Undo

@@ -16,7 +16,8 @@ use Rattle.volume.specs.declared.Entry.{Entry}
 use Rattle.volume.specs.Volume.{Range, inRange, countRange, minutesRange, litresRange, ratioRange, productRange, mostGroups, entryInRange, entriesInRange, entryString, entriesString, volumeString, numbersOf, entriesOf}
 use Rattle.volume.specs.Calls.{ValueRead, EntryRead, EntriesRead, numberRead, readValue, readEntry, readEntries, entriesIn, VolumeRead, readVolume, VolumeWritten, writeVolume}
 use Rattle.volume.proofs.Entries.{numbers-length, entries-numbers, numbers-entries, entries-length}
-use Rattle.volume.proofs.Values.{ranged-value, value-in-range, range-most}
+use Rattle.volume.proofs.Values.{ranged-value, range-most}
+use Rattle.volume.proofs.Ranges.{minutes-in, litres-in, ratio-in, product-in, volume-lines, volume-in-range}
 use Rattle.volume.proofs.FourNumbers.{entryOf, entry-four}
 use Rattle.volume.proofs.EntryByEntry.{entries-zero, entries-suc, entries-first, none-left, entries-count}
 use Rattle.volume.proofs.Counting.{whole}
@@ -31,28 +32,6 @@ module _ (range : Range) (small : range .most < 128 ^ 3) where
   value-back n rest h =
       let l : n < 128 ^ 3 = omega (arith, range-most range n h) in
       rw (read-written mostGroups n rest (omega arith) (omega arith) l, h)
-
--- the four ranges of an entry
-module _ (e : Entry) (h : entryInRange e ≡ true) where
-  abbrev first-three : Bool
-  first-three = inRange minutesRange (e .minutes) && inRange litresRange (e .litres) && inRange ratioRange (e .ratio)
-
-  three : first-three ≡ true
-  unfolding entryInRange
-  three = and-left first-three (inRange productRange (e .product)) h
-
-  pub minutes-in : inRange minutesRange (e .minutes) ≡ true
-  minutes-in = and-left _ (inRange litresRange (e .litres)) (and-left _ (inRange ratioRange (e .ratio)) three)
-
-  pub litres-in : inRange litresRange (e .litres) ≡ true
-  litres-in = and-right (inRange minutesRange (e .minutes)) _ (and-left _ (inRange ratioRange (e .ratio)) three)
-
-  pub ratio-in : inRange ratioRange (e .ratio) ≡ true
-  ratio-in = and-right (inRange minutesRange (e .minutes) && inRange litresRange (e .litres)) _ three
-
-  pub product-in : inRange productRange (e .product) ≡ true
-  unfolding entryInRange
-  product-in = and-right first-three _ h
 
 -- the string of an entry, one number after another
 pub entry-before : (e : Entry) (rest : List ℕ)
@@ -113,10 +92,9 @@ after-below (x ∷ a) b h = after-below a b (λ i. h (suc i))
 abbrev Bytes : List ℕ → Type 0
 Bytes s = (i : ℕ) → getD s i 0 < 256
 
--- a value that was read: the string begins with it, and it is in its range
-pub record Written (range : Range) (string : List ℕ) (v : ValueRead) : Type 0 where
+-- a value that was read: the string begins with it
+pub record Written (string : List ℕ) (v : ValueRead) : Type 0 where
   pub string-is : string ≡ number (v .value) ++ v .rest
-  pub in-range : inRange range (v .value) ≡ true
   pub rest-bytes : Bytes (v .rest)
 
 number-was : (string : List ℕ) (f : Reading) (v : ValueRead) → numberRead f ≡ accepted v → f ≡ is (v .value) (v .rest)
@@ -134,23 +112,20 @@ value-number range string v e =
     after-line (numberRead (readNumber mostGroups string)) _ (sym (value-lines range string) ∙ e) (λ n q _. no-refusal q) (λ read p q.
     number-was string (readNumber mostGroups string) v (p ∙ ap accepted (ranged-value (inRange range (read .value)) read v q .1)))
 
-value-was : (range : Range) (string : List ℕ) (v : ValueRead) → Bytes string → readValue range string ≡ accepted v → Written range string v
+value-was : (range : Range) (string : List ℕ) (v : ValueRead) → Bytes string → readValue range string ≡ accepted v → Written string v
 value-was range string v bytes e =
     let w = written-read mostGroups (omega arith) string (v .value) (v .rest) bytes (value-number range string v e) in
     record {
       string-is = w .0;
-      in-range = value-in-range range string v e;
       rest-bytes = after-below (number (v .value)) (v .rest) (rw (w .0) at bytes);
     }
 
 -- an entry that was read
 pub record EntryWritten (string : List ℕ) (found : EntryRead) : Type 0 where
   pub string-is : string ≡ entryString (found .entry) ++ found .rest
-  pub in-range : entryInRange (found .entry) ≡ true
   pub rest-bytes : Bytes (found .rest)
 
 entry-was : (string : List ℕ) (found : EntryRead) → Bytes string → readEntry string ≡ accepted found → EntryWritten string found
-unfolding entryInRange
 entry-was string found bytes e =
     let f = entry-four string found e in
     let m = value-was minutesRange string (f .minutes) bytes (f .is-minutes) in
@@ -160,36 +135,25 @@ entry-was string found bytes e =
     rw (f .entry-is)
     (record {
       string-is = m .string-is ∙ rw (l .string-is, r .string-is, p .string-is) (sym (entry-before (entryOf (f .minutes) (f .litres) (f .ratio) (f .product) .entry) (f .product .rest)));
-      in-range = rw (m .in-range, l .in-range, r .in-range, p .in-range);
       rest-bytes = p .rest-bytes;
     })
 
-pub record EntriesWritten (string : List ℕ) (found : EntriesRead) : Type 0 where
-  pub string-is : string ≡ entriesString (found .entries) ++ found .rest
-  pub in-range : entriesInRange (found .entries) ≡ true
-
-entries-were : (n : ℕ) (string : List ℕ) (found : EntriesRead) → Bytes string → readEntries n string ≡ accepted found → EntriesWritten string found
-unfolding entriesString entriesInRange
-entries-were zero string found bytes e = rw (none-left string found e) (record { string-is = refl; in-range = refl })
+entries-were : (n : ℕ) (string : List ℕ) (found : EntriesRead) → Bytes string → readEntries n string ≡ accepted found
+    → string ≡ entriesString (found .entries) ++ found .rest
+unfolding entriesString
+entries-were zero string found bytes e = rw (none-left string found e)
 entries-were (suc n) string found bytes e =
     let f = entries-first n string found e in
     let first = entry-was string (f .first) bytes (f .first-is) in
     let others = entries-were n (f .first .rest) (f .others) (first .rest-bytes) (f .others-are) in
     rw (f .both)
-    (record {
-      string-is = first .string-is ∙ rw (others .string-is) (sym (append-assoc (entryString (f .first .entry)) (entriesString (f .others .entries)) (f .others .rest)));
-      in-range = rw (first .in-range, others .in-range);
-    })
+    (first .string-is ∙ rw others (sym (append-assoc (entryString (f .first .entry)) (entriesString (f .others .entries)) (f .others .rest))))
 
 -- a volume that was read
 pub record VolumeWas (string : List ℕ) (entries : List Entry) : Type 0 where
   pub string-is : string ≡ volumeString entries
   pub count-in : inRange countRange (length entries) ≡ true
   pub in-range : entriesInRange entries ≡ true
-
-volume-lines : (string : List ℕ) → entriesIn string ≡ (readValue countRange string >>= λ count. whole (readEntries (count .value) (count .rest)))
-unfolding entriesIn
-volume-lines string = refl
 
 pub volume-was : (string : List ℕ) (entries : List Entry) → Bytes string → entriesIn string ≡ accepted entries → VolumeWas string entries
 unfolding volumeString
@@ -199,12 +163,9 @@ volume-was string entries bytes e =
     let f = whole-found (readEntries (count .value) (count .rest)) entries q in
     let w = entries-were (count .value) (count .rest) (f .0) (c .rest-bytes) (f .1) in
     let n : length entries ≡ count .value = ap length (sym (f .2)) ∙ entries-count (count .value) (count .rest) (f .0) (f .1) in
-    let rest : count .rest ≡ entriesString entries = w .string-is ∙ rw (f .2, f .3, append-nil) in
-    record {
-      string-is = c .string-is ∙ rw (rest, n);
-      count-in = rw n (c .in-range);
-      in-range = rw (f .2) at (w .in-range);
-    })
+    let rest : count .rest ≡ entriesString entries = w ∙ rw (f .2, f .3, append-nil) in
+    let r = volume-in-range string entries e in
+    record { string-is = c .string-is ∙ rw (rest, n); count-in = r .count-in; in-range = r .in-range })
 
 -- ---- the calls undo each other
 

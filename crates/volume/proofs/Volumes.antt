@@ -8,12 +8,12 @@ use lib.Dec.{eqb}
 use lib.ListN.{length, drop}
 use Rattle.laws.specs.Lent.{putFirst}
 use Rattle.laws.specs.Result.{Result, refused, accepted, resultOf, _>>=_, _>>_, refuse_unless_}
-use Rattle.laws.proofs.Results.{refused-iff, no-refusal, accepted-one, is-refused, is-accepted}
+use Rattle.laws.proofs.Results.{block-in-block, same-lines, refused-iff, no-refusal, accepted-one, is-refused, is-accepted}
 use Rattle.volume.specs.declared.Entry.{Entry}
 use Rattle.volume.specs.declared.reading.CountFound.{CountFound}
-use Rattle.volume.specs.Volume.{numbersOf}
-use Rattle.volume.specs.Calls.{EntriesRead, readEntries, isEmpty, entriesIn, checkVolume, readVolume}
-use Rattle.volume.specs.Found.{countIn, CountIs, Stored}
+use Rattle.volume.specs.Volume.{countRange, numbersOf}
+use Rattle.volume.specs.Calls.{EntriesRead, readValue, readEntries, isEmpty, entriesIn, checkVolume, readVolume}
+use Rattle.volume.specs.Found.{entriesOnly, countIn, CountIs, Stored}
 use Rattle.volume.proofs.Counting.{whole}
 
 counted : (r : Result (List Entry)) (n : ℕ) → (r >>= λ entries. accepted (length entries)) ≡ accepted n
@@ -38,6 +38,22 @@ pub whole-found : (r : Result EntriesRead) (entries : List Entry) → whole r �
     → (found : EntriesRead) × (r ≡ accepted found) × (found .entries ≡ entries) × (found .rest ≡ [])
 whole-found (refused m) entries e = no-refusal (sym e)
 whole-found (accepted found) entries e = let h = rest-found (found .rest) (found .entries) entries e in (found, refl, h .0, h .1)
+
+-- a value of a volume's entries, from its first number and the entries after it
+value-last : {A : Type 0} (value : List Entry → A) (b : Bool) (entries : List Entry)
+    → ((refuse 16 unless b) >> accepted entries >>= λ found. accepted (value found)) ≡ ((refuse 16 unless b) >> accepted (value entries))
+value-last value true entries = refl
+value-last value false entries = refl
+
+pub volume-value : {A : Type 0} (value : List Entry → A) (string : List ℕ)
+    → (entriesIn string >>= λ entries. accepted (value entries))
+    ≡ (readValue countRange string >>= λ count. entriesOnly value (count .value) (count .rest))
+unfolding entriesIn entriesOnly
+volume-value value string =
+    block-in-block (readValue countRange string) _ _
+    ∙ same-lines (readValue countRange string) _ _ (λ count.
+    block-in-block (readEntries (count .value) (count .rest)) _ _
+    ∙ same-lines (readEntries (count .value) (count .rest)) _ _ (λ read. value-last value (isEmpty (read .rest)) (read .entries)))
 
 module _ (string : List ℕ) (r : CountFound) (is : CountIs string r) where
   -- what the refusal number of `count_entries` says

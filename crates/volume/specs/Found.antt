@@ -8,7 +8,7 @@ use Rattle.laws.specs.Lent.{putFirst}
 use Rattle.laws.specs.Result.{Result, accepted, resultOf, _>>=_, _>>_, refuse_unless_}
 use Rattle.volume.specs.declared.Entry.{Entry}
 use Rattle.volume.specs.declared.reading.ValueFound.{ValueFound}
-use Rattle.volume.specs.declared.reading.PlaceFound.{PlaceFound}
+use Rattle.volume.specs.declared.reading.EntryChecked.{EntryChecked}
 use Rattle.volume.specs.declared.reading.NumberFound.{NumberFound}
 use Rattle.volume.specs.declared.reading.EntryFound.{EntryFound}
 use Rattle.volume.specs.declared.reading.CountFound.{CountFound}
@@ -19,15 +19,13 @@ use Rattle.volume.specs.Calls.{ValueRead, EntryRead, EntriesRead, readVa
 abbrev pub valueIs : List ℕ → ValueFound → Result ValueRead
 valueIs string r = resultOf (r .refusal) (record { value = r .value; rest = drop (r .next) string })
 
--- the place after an entry that was found in a string, or the refusal
-abbrev pub placeIs : List ℕ → PlaceFound → Result (List ℕ)
-placeIs string r = resultOf (r .refusal) (drop (r .next) string)
+-- an entry that was found in a string, or the refusal; the place after it stands for the bytes from there on
+abbrev pub entryIs : List ℕ → EntryChecked → Result EntryRead
+entryIs string r = resultOf (r .refusal) (record { entry = r .entry; rest = drop (r .next) string })
 
--- what follows the entry at the start of a string
-unfoldable pub afterEntry : (string : List ℕ) → Result (List ℕ)
-afterEntry string = do
-  read ← readEntry string
-  accepted (read .rest)
+-- the refusal of an entry
+abbrev pub noEntry : (refusal : ℕ) → EntryChecked
+noEntry refusal = record { refusal = refusal; entry = record { minutes = 0; litres = 0; ratio = 0; product = 0 }; next = 0 }
 
 -- a number or an entry from a place on, where there is one that is in its range
 abbrev pub NumberReadAgain : (string : List ℕ) (at : ℕ) → NumberFound → Type 0
@@ -44,11 +42,12 @@ unfoldable pub ranged : (value next : ℕ) → Range → ValueFound
 ranged value next range =
     cond (inRange range value) (record { refusal = 0; value = value; next = next }) (record { refusal = 15; value = 0; next = 0 })
 
--- n entries and nothing after them, or the refusal
-unfoldable pub entriesOnly : (n : ℕ) (string : List ℕ) → Result (Unit {0})
-entriesOnly n string = do
+-- a value of n entries with nothing after them, or the refusal
+unfoldable pub entriesOnly : {A : Type 0} → (value : List Entry → A) (n : ℕ) (string : List ℕ) → Result A
+entriesOnly value n string = do
   read ← readEntries n string
   refuse 16 unless isEmpty (read .rest)
+  accepted (value (read .entries))
 
 -- how many entries a volume has, or its refusal
 unfoldable pub countIn : (string : List ℕ) → Result ℕ

@@ -5,7 +5,7 @@ ghost use Rattle.laws.specs.Result.{resultOf};
 ghost use Rattle.volume.specs.Calls as Calls;
 ghost use Rattle.volume.specs.Answers as Answers;
 
-mod reading;
+pub mod reading;
 mod writing;
 
 use reading::count_entries;

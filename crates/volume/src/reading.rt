@@ -23,9 +23,10 @@ pub struct ValueFound {
     pub next: usize,
 }
 
-// The place after what was found, with refusal 0; or the refusal number, with place 0.
-pub struct PlaceFound {
+// An entry that was found, with refusal 0, and the place after it; or the refusal number, with 0 for both.
+pub struct EntryChecked {
     pub refusal: u64,
+    pub entry: Entry,
     pub next: usize,
 }
 
@@ -76,7 +77,7 @@ fn ranged(value: u64, next: usize, least: u32, most: u32) -> ValueFound
 }
 
 // The number from place `at` on, which is to be in a range.
-fn read_value(string: &[u8], at: usize, least: u32, most: u32) -> ValueFound
+pub fn read_value(string: &[u8], at: usize, least: u32, most: u32) -> ValueFound
     requires { ⌜ at ≤ length (now string) ⌝ }
     ensures { λ r. ⌜
         (Found.valueIs (now (string .entry)) r ≡ Calls.readValue (Volume._to_ least most) (drop at (now (string .entry))))
@@ -90,43 +91,55 @@ fn read_value(string: &[u8], at: usize, least: u32, most: u32) -> ValueFound
     }
 }
 
-fn no_place(refusal: u64) -> PlaceFound
-    ensures { λ r. ⌜ r ≡ record { refusal = refusal; next = 0 } ⌝ }
+fn no_entry(refusal: u64) -> EntryChecked
+    ensures { λ r. ⌜ r ≡ Found.noEntry refusal ⌝ }
 {
-    PlaceFound {
+    EntryChecked {
         refusal: refusal,
+        entry: Entry {
+            minutes: 0,
+            litres: 0,
+            ratio: 0,
+            product: 0,
+        },
         next: 0,
     }
 }
 
-// Checks the entry from place `at` on, and gives the place after it.
-fn check_entry(string: &[u8], at: usize) -> PlaceFound
+// The entry from place `at` on, each number of which is to be in its range.
+pub fn check_entry(string: &[u8], at: usize) -> EntryChecked
     requires { ⌜ at ≤ length (now string) ⌝ }
     ensures { λ r. ⌜
-        (Found.placeIs (now (string .entry)) r ≡ Found.afterEntry (drop at (now (string .entry)))) × (r .next ≤ length (now (string .entry))) ⌝ }
+        (Found.entryIs (now (string .entry)) r ≡ Calls.readEntry (drop at (now (string .entry)))) × (r .next ≤ length (now (string .entry))) ⌝ }
 {
     let minutes = read_value(string, at, 0, MOST_MINUTES);
     let minutes_refusal = minutes.refusal;
     if minutes_refusal != 0 {
-        return no_place(minutes_refusal);
+        return no_entry(minutes_refusal);
     }
     let litres = read_value(string, minutes.next, 0, MOST_LITRES);
     let litres_refusal = litres.refusal;
     if litres_refusal != 0 {
-        return no_place(litres_refusal);
+        return no_entry(litres_refusal);
     }
     let ratio = read_value(string, litres.next, 0, MOST_RATIO);
     let ratio_refusal = ratio.refusal;
     if ratio_refusal != 0 {
-        return no_place(ratio_refusal);
+        return no_entry(ratio_refusal);
     }
     let product = read_value(string, ratio.next, LEAST_PRODUCT, MOST_PRODUCT);
     let product_refusal = product.refusal;
     if product_refusal != 0 {
-        return no_place(product_refusal);
+        return no_entry(product_refusal);
     }
-    PlaceFound {
+    EntryChecked {
         refusal: 0,
+        entry: Entry {
+            minutes: minutes.value,
+            litres: litres.value,
+            ratio: ratio.value,
+            product: product.value,
+        },
         next: product.next,
     }
 }
@@ -144,7 +157,7 @@ fn no_count(refusal: u64) -> CountFound
 // Whether n entries stand from place `first` on and nothing after them: 0, or the refusal number.
 fn check_entries(string: &[u8], first: usize, n: usize) -> u64
     requires { ⌜ first ≤ length (now string) ⌝ }
-    ensures { λ r. ⌜ resultOf r tt ≡ Found.entriesOnly n (drop first (now (string .entry))) ⌝ }
+    ensures { λ r. ⌜ resultOf r tt ≡ Found.entriesOnly (λ _. tt {0}) n (drop first (now (string .entry))) ⌝ }
 {
     let mut at = first;
     let mut k = 0;

@@ -11,7 +11,7 @@ returns : tie.Need-returns
 returns c =
     let a = c .before .before .before .before .args in
     no-minutes (now (a .string)) (drop (a .at) (now (a .string)))
-    _ (c .before .if1 .taken) (c .no-place .ensures)
+    _ (c .before .if1 .taken) (c .no-entry .ensures)
     (is-refused _ _ _ (c .before .before .read-value .ensures .0) (c .before .if1 .taken))
 
 returns-2 : tie.Need-returns-2
@@ -19,7 +19,7 @@ returns-2 c =
     let a = c .before .before .before .before .before .before .args in
     no-litres (now (a .string)) (drop (a .at) (now (a .string)))
     _ (is-accepted _ _ _ (c .before .before .before .before .read-value .ensures .0) (c .before .before .before .if1 .left))
-    _ (c .before .if2 .taken) (c .no-place2 .ensures)
+    _ (c .before .if2 .taken) (c .no-entry2 .ensures)
     (is-refused _ _ _ (c .before .before .read-value2 .ensures .0) (c .before .if2 .taken))
 
 returns-3 : tie.Need-returns-3
@@ -28,7 +28,7 @@ returns-3 c =
     no-ratio (now (a .string)) (drop (a .at) (now (a .string)))
     _ (is-accepted _ _ _ (c .before .before .before .before .before .before .read-value .ensures .0) (c .before .before .before .before .before .if1 .left))
     _ (is-accepted _ _ _ (c .before .before .before .before .read-value2 .ensures .0) (c .before .before .before .if2 .left))
-    _ (c .before .if3 .taken) (c .no-place3 .ensures)
+    _ (c .before .if3 .taken) (c .no-entry3 .ensures)
     (is-refused _ _ _ (c .before .before .read-value3 .ensures .0) (c .before .if3 .taken))
 
 returns-4 : tie.Need-returns-4
@@ -38,7 +38,7 @@ returns-4 c =
     _ (is-accepted _ _ _ (c .before .before .before .before .before .before .before .before .read-value .ensures .0) (c .before .before .before .before .before .before .before .if1 .left))
     _ (is-accepted _ _ _ (c .before .before .before .before .before .before .read-value2 .ensures .0) (c .before .before .before .before .before .if2 .left))
     _ (is-accepted _ _ _ (c .before .before .before .before .read-value3 .ensures .0) (c .before .before .before .if3 .left))
-    _ (c .before .if4 .taken) (c .no-place4 .ensures)
+    _ (c .before .if4 .taken) (c .no-entry4 .ensures)
     (is-refused _ _ _ (c .before .before .read-value4 .ensures .0) (c .before .if4 .taken))
 
 returns-5 : tie.Need-returns-5

@@ -1,0 +1,2 @@
+pub mod Duty
+pub mod Calls
