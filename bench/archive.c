@@ -103,4 +103,17 @@ static int64_t read_volume(const uint8_t *volume, size_t volume_bytes, uint32_t 
 #define read_volume NULL
 #endif
 
-const struct implementation COLUMN = { TITLE, create, set_up, cipher, 1, move, recover, write_checkpoint, load, write_volume, read_volume };
+/* Nor may it have the duty. */
+#ifdef HC_MOST_DUTY
+static int64_t duty(const uint8_t *volume, size_t volume_bytes, size_t times)
+{
+    struct hc_duty owed = { 0, 0 };
+    for (size_t i = 0; i < times; i++)
+        owed = hc_volume_duty(volume, volume_bytes);
+    return owed.refusal == HC_OK ? (int64_t)owed.cents : -1;
+}
+#else
+#define duty NULL
+#endif
+
+const struct implementation COLUMN = { TITLE, create, set_up, cipher, 1, move, recover, write_checkpoint, load, write_volume, read_volume, duty };

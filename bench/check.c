@@ -95,6 +95,9 @@ static void check_volume(const struct implementation *const *all, size_t count)
         memcpy(expected, found, length);
         if (all[k]->read_volume(found, length, list, NUMBERS, 1) != NUMBERS / 4 || memcmp(list, entries, sizeof entries) != 0)
             stop_volume(all[k], "the entries of a volume");
+        /* 16383 * 128 * 95 / 10000, 16384 * 10000 * 95 / 10000 and 100000 * 525 * 60 / 10000, each cut down */
+        if (all[k]->duty != NULL && all[k]->duty(found, length, 1) != 19921 + 1556480 + 315000)
+            stop_volume(all[k], "the duty on a volume");
     }
 }
 

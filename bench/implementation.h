@@ -31,6 +31,8 @@ struct implementation {
     size_t (*write_volume)(const uint32_t *entries, size_t numbers, uint8_t *lent, size_t lent_bytes, size_t times);
     /* Reads a volume, so many times in a row, and returns the count of its entries; -1 where it is refused. */
     int64_t (*read_volume)(const uint8_t *volume, size_t volume_bytes, uint32_t *entries, size_t numbers, size_t times);
+    /* Works out the duty on a volume, so many times in a row, and returns it in cents; -1 where the volume is refused. */
+    int64_t (*duty)(const uint8_t *volume, size_t volume_bytes, size_t times);
 };
 
 #endif

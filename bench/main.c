@@ -136,8 +136,10 @@ static void print_goals(void)
         print_goal("call of 3 bytes: time / set-up, below 0.05", cipher_titles[cipher], call, call < 0.05);
     }
     double writing = against_fastest(WRITE_VOLUME, 0, PLAIN_GCC, PLAIN_CLANG), reading = against_fastest(READ_VOLUME, 0, PLAIN_GCC, PLAIN_CLANG);
+    double duty = against_fastest(DUTY, 0, PLAIN_GCC, PLAIN_CLANG);
     print_goal("write volume: time / faster plain C, at most 2", "-     ", writing, writing <= 2);
     print_goal("read volume: time / faster plain C, at most 2", "-     ", reading, reading <= 2);
+    print_goal("duty: time / faster plain C, at most 2", "-     ", duty, duty <= 2);
 }
 
 /* Its argument is the number of rounds. */

@@ -25,6 +25,7 @@ const struct row_about about[ROWS] = {
     [LOAD_SMALL] = { "load at position 1,001", MICROSECONDS, 20 },
     [WRITE_VOLUME] = { "write volume, 2,000 entries", MICROSECONDS, 20 },
     [READ_VOLUME] = { "read volume, 2,000 entries", MICROSECONDS, 20 },
+    [DUTY] = { "duty on 2,000 entries", MICROSECONDS, 20 },
 };
 
 double seconds[ROWS][2][MOST_COLUMNS];
@@ -53,7 +54,7 @@ static double now(void)
 
 int ciphers_of(enum row row)
 {
-    return row == WRITE_VOLUME || row == READ_VOLUME ? 1 : 2;
+    return row == WRITE_VOLUME || row == READ_VOLUME || row == DUTY ? 1 : 2;
 }
 
 size_t bulk_bytes(enum row row)
@@ -88,6 +89,7 @@ static int has(const struct implementation *it, enum row row)
     case LOAD_SMALL: return it->load != NULL;
     case WRITE_VOLUME: return it->write_volume != NULL;
     case READ_VOLUME: return it->read_volume != NULL;
+    case DUTY: return it->duty != NULL;
     default: return call_bytes(row) >= it->least_call;
     }
 }
@@ -194,6 +196,15 @@ static double time_read_volume(const struct implementation *it)
     return (now() - start) / (double)times;
 }
 
+static double time_duty(const struct implementation *it)
+{
+    size_t times = 16, length = it->write_volume(entries, 4 * VOLUME_ENTRIES, volume, sizeof volume, 1);
+    double start = now();
+    if (it->duty(volume, length, times) < 0)
+        abort();
+    return (now() - start) / (double)times;
+}
+
 static double time_row(struct engine *e, enum row row)
 {
     switch (row) {
@@ -206,6 +217,7 @@ static double time_row(struct engine *e, enum row row)
     case LOAD_SMALL: return time_load(e, SMALL_POSITION, 16);
     case WRITE_VOLUME: return time_write_volume(e->it);
     case READ_VOLUME: return time_read_volume(e->it);
+    case DUTY: return time_duty(e->it);
     default: return time_cipher(e, call_bytes(row));
     }
 }

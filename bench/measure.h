@@ -21,6 +21,7 @@ enum row {
     LOAD_LIMIT,
     WRITE_VOLUME,
     READ_VOLUME,
+    DUTY,
     ROWS
 };
 

@@ -75,4 +75,12 @@ static int64_t read_volume(const uint8_t *volume, size_t volume_bytes, uint32_t 
     return read.refusal == 0 ? (int64_t)read.value : -1;
 }
 
-const struct implementation COLUMN = { TITLE, create, set_up, cipher, 1, move, recover, write_checkpoint, load, write_volume, read_volume };
+static int64_t duty(const uint8_t *volume, size_t volume_bytes, size_t times)
+{
+    struct plain_answer owed = { 0, 0 };
+    for (size_t i = 0; i < times; i++)
+        owed = plain_duty(volume, volume_bytes);
+    return owed.refusal == 0 ? (int64_t)owed.value : -1;
+}
+
+const struct implementation COLUMN = { TITLE, create, set_up, cipher, 1, move, recover, write_checkpoint, load, write_volume, read_volume, duty };

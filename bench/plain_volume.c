@@ -1,4 +1,5 @@
-/* Volumes are read twice, as the archive does: once to check, and again to store, so that a refused call has stored nothing. */
+/* Volumes are read twice, as the archive does: once to check, and again to store, so that a refused call has stored nothing. For the duty they are
+ * read once. */
 #include "plain_volume.h"
 
 #define MOST_ENTRIES 2000
@@ -71,6 +72,25 @@ struct plain_answer plain_read_volume(const uint8_t *volume, size_t volume_bytes
     for (uint32_t k = 0; k < count; k++)
         read_entry(&first, entries + 4 * k);
     return accepted(count);
+}
+
+struct plain_answer plain_duty(const uint8_t *volume, size_t volume_bytes)
+{
+    static const uint64_t rates[8] = { 120, 95, 95, 60, 40, 40, 15, 0 };
+    struct place p = { volume, volume + volume_bytes };
+    uint32_t count, entry[4];
+    uint64_t cents = 0, refusal = read_number(&p, 0, MOST_ENTRIES, &count);
+    if (refusal != 0)
+        return refused(refusal);
+    for (uint32_t k = 0; k < count; k++) {
+        refusal = read_entry(&p, entry);
+        if (refusal != 0)
+            return refused(refusal);
+        cents += (uint64_t)entry[1] * entry[2] * rates[entry[3] - 1] / 10000;
+    }
+    if (p.at != p.end)
+        return refused(16);
+    return accepted(cents);
 }
 
 static size_t count_groups(uint32_t n)

@@ -1,11 +1,11 @@
-/* The shift volume in plain C, written from request (d) of document 02. */
+/* The shift volume and the duty on it in plain C, written from requests (d) and (e) of document 02. */
 #ifndef PLAIN_VOLUME_H
 #define PLAIN_VOLUME_H
 
 #include <stddef.h>
 #include <stdint.h>
 
-/* The refusal number, 0 where the call is accepted, and then the length or the count; a refused call changes nothing. */
+/* The refusal number, 0 where the call is accepted, and then the length, the count or the cents; a refused call changes nothing. */
 struct plain_answer {
     uint64_t refusal;
     uint64_t value;
@@ -13,5 +13,6 @@ struct plain_answer {
 
 struct plain_answer plain_write_volume(const uint32_t *entries, size_t numbers, uint8_t *lent, size_t lent_bytes);
 struct plain_answer plain_read_volume(const uint8_t *volume, size_t volume_bytes, uint32_t *entries, size_t numbers);
+struct plain_answer plain_duty(const uint8_t *volume, size_t volume_bytes);
 
 #endif

@@ -83,7 +83,7 @@ extern "C" {
  *     product   1    2   3   4   5   6   7   8
  *     rate      120  95  95  60  40  40  15  0
  * HC_MOST_DUTY is the greatest duty of any volume, in cents: 2,000 entries of 100,000 litres at 10,000 of product 1. It does not fit 32 bits. */
-#define HC_MOST_DUTY 24000000000
+#define HC_MOST_DUTY UINT64_C(24000000000)
 
 enum hc_refusal {
     HC_OK = 0,
@@ -214,8 +214,8 @@ struct hc_count hc_read_volume(const uint8_t *volume, size_t volume_bytes, uint3
  */
 uint64_t hc_encipher_volume(struct hc_head *head, uint32_t *area, size_t area_words, uint8_t *volume, size_t volume_bytes);
 
-/* Volume duty: the component duty on a volume, in whole cents. volume is the volume as hc_write_volume wrote it, not enciphered, and no byte more.
- * Refusals: 16, 14, 15 as hc_read_volume. */
+/* Volume duty: the component duty on a volume, in whole cents. volume is the volume and no byte more, and not enciphered.
+ * Refusals: 16, 14, 15 as hc_read_volume. Stack: ??? bytes. */
 struct hc_duty hc_volume_duty(const uint8_t *volume, size_t volume_bytes);
 
 #ifdef __cplusplus

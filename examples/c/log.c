@@ -1,6 +1,6 @@
 /* The first program to write: log blend ratios, keep a checkpoint, go on from it elsewhere, and read everything back without the key. On the way it shows
  * that a look back at an old entry leaves what is spent, that a refused call changes nothing, and that a head is refused with an area that was copied
- * too early. At the end a shift's entries are written as a volume, enciphered, deciphered and read. */
+ * too early. At the end a shift's entries are written as a volume, enciphered, deciphered and read, and their duty is worked out. */
 #include <inttypes.h>
 #include <stdio.h>
 #include <stdlib.h>
@@ -91,6 +91,20 @@ static void log_shift(void)
         const uint32_t *entry = found + HC_ENTRY_NUMBERS * i;
         printf("  after %" PRIu32 " minutes %" PRIu32 " litres at %" PRIu32 " of product %" PRIu32 "\n", entry[0], entry[1], entry[2], entry[3]);
     }
+    struct hc_duty duty = hc_volume_duty(volume, written.length);
+    check("volume duty", duty.refusal);
+    printf("duty: %" PRIu64 " cents\n", duty.cents);
+
+    /* The example of document 02: one entry of 1,000 litres at 525 of product 4 owes 3,150 cents. */
+    written = hc_write_volume(entries, HC_ENTRY_NUMBERS, volume, sizeof volume);
+    check("write volume", written.refusal);
+    duty = hc_volume_duty(volume, written.length);
+    check("volume duty", duty.refusal);
+    printf("duty on the first entry alone: %" PRIu64 " cents\n", duty.cents);
+
+    /* A volume that is cut is refused with 16, and has no duty. */
+    duty = hc_volume_duty(volume, written.length - 1);
+    printf("duty on that volume without its last byte: refused with %" PRIu64 ", %" PRIu64 " cents\n", duty.refusal, duty.cents);
 }
 
 int main(void)

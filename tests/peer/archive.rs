@@ -32,11 +32,19 @@ pub struct HcCount {
     pub count: u64,
 }
 
+#[repr(C)]
+#[derive(Clone, Copy)]
+pub struct HcDuty {
+    pub refusal: u64,
+    pub cents: u64,
+}
+
 // Each structure is as long as its fields together, so it has no padding.
 const _: () = assert!(size_of::<HcHead>() == 4 + 4 + 8 + 8);
 const _: () = assert!(size_of::<HcLength>() == 8 + 8);
 const _: () = assert!(size_of::<HcWords>() == 8 + 8 * 4 + 8 * 4);
 const _: () = assert!(size_of::<HcCount>() == 8 + 8);
+const _: () = assert!(size_of::<HcDuty>() == 8 + 8);
 
 extern "C" {
     pub fn hc_set_up(
@@ -67,4 +75,5 @@ extern "C" {
     pub fn hc_write_volume(entries: *const u32, numbers: usize, lent: *mut u8, lent_bytes: usize) -> HcLength;
     pub fn hc_read_volume(volume: *const u8, volume_bytes: usize, entries: *mut u32, numbers: usize) -> HcCount;
     pub fn hc_encipher_volume(head: *mut HcHead, area: *mut u32, area_words: usize, volume: *mut u8, volume_bytes: usize) -> u64;
+    pub fn hc_volume_duty(volume: *const u8, volume_bytes: usize) -> HcDuty;
 }

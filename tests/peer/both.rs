@@ -1,8 +1,9 @@
 //! One engine held twice, by the archive and by the peer; each call is made on both and everything is compared.
 
-use crate::archive::{self, HcCount, HcHead, HcLength, HcWords};
+use crate::archive::{self, HcCount, HcDuty, HcHead, HcLength, HcWords};
 use crate::calls::{self, Head};
 use crate::ciphers::{self, Cipher};
+use crate::duty;
 use crate::lent::Lent;
 use crate::tally::Tally;
 use crate::volume::{self, Fault};
@@ -98,6 +99,19 @@ fn answer<T>(result: &Result<T, u64>) -> String {
         Ok(_) => "accepted".to_string(),
         Err(refusal) => refusal.to_string(),
     }
+}
+
+/// The word that the count has for a string that is not a volume: what is wrong with it, and in which number.
+fn answer_of_fault(fault: Fault) -> String {
+    match fault.number() {
+        Some(number) => format!("{}, {}", fault.kind(), number.name),
+        None => fault.kind().to_string(),
+    }
+}
+
+/// Whether a string is refused with 14 for its last byte, without which it ends early.
+fn is_14_at_end(string: &[u8], fault: Fault) -> bool {
+    fault.refusal() == 14 && matches!(volume::entries_of(&string[..string.len() - 1]), Err(Fault::Ends(_)))
 }
 
 /// The first numbers of a list and how many there are.
@@ -620,10 +634,7 @@ impl<'t> Both<'t> {
     fn count_read_volume(&mut self, string: &[u8], list: usize, result: Result<u64, u64>) {
         let read = volume::entries_of(string);
         let answer = match read {
-            Err(fault) => match fault.number() {
-                Some(number) => format!("{}, {}", fault.kind(), number.name),
-                None => fault.kind().to_string(),
-            },
+            Err(fault) => answer_of_fault(fault),
             Ok(_) => answer(&result),
         };
         self.tally.call("read volume", &answer, None);
@@ -636,9 +647,7 @@ impl<'t> Both<'t> {
             let is_short = string.first().is_some_and(|count| *count < 128 && list < 4 * *count as usize);
             special(is_short, &format!("{} before 8 in read volume", fault.refusal()));
             special(fault == Fault::BytesAfter && is_short, "16 for bytes after before 8 in read volume");
-            let is_at_end =
-                fault.refusal() == 14 && matches!(volume::entries_of(&string[..string.len() - 1]), Err(Fault::Ends(_)));
-            special(is_at_end, "14 at the end of the string in read volume");
+            special(is_14_at_end(string, fault), "14 at the end of the string in read volume");
         }
         if let Ok(entries) = read {
             special(result == Ok(0), "read volume of no entries");
@@ -647,5 +656,58 @@ impl<'t> Both<'t> {
             special(result.is_ok() && list > entries.len(), "read volume, longer list");
             special(result == Err(8) && list + 1 == entries.len(), "read volume, list one number short");
         }
+    }
+
+    /// Volume duty, which takes neither head nor area; both are compared all the same. The archive must refuse just what its read
+    /// volume refuses where the list is long enough, with the same number.
+    pub fn volume_duty(&mut self, string: &[u8]) -> Agreed<u64> {
+        let mut comparison = self.begin(format!("volume duty, {}", short(string)));
+        let mut lent = self.lend(string);
+        let returned = unsafe { archive::hc_volume_duty(lent.pointer(), string.len()) };
+        let result = duty::volume_duty(string);
+        comparison.equal("answer", plain(returned.refusal), result.map(|_| ()));
+        comparison.equal("returned cents", returned.cents, result.unwrap_or(0));
+        let returned_bytes = unsafe { transmute::<HcDuty, [u8; 16]>(returned) };
+        let expected_bytes = bytes_of_numbers(&[number(&result), result.unwrap_or(0)]);
+        comparison.equal_bytes("returned structure", &returned_bytes, &expected_bytes);
+        comparison.equal_lists("volume", lent.content(), string);
+        comparison.guards("volume", &lent);
+        // Each number has at least one byte, so as many numbers as there are bytes are enough.
+        let mut list = self.lend_list(&vec![0; string.len()]);
+        let read = unsafe { archive::hc_read_volume(lent.pointer(), string.len(), list.pointer(), string.len()) };
+        if returned.refusal != read.refusal {
+            comparison.differences.push(format!("archive: volume duty says {}, read volume {}", returned.refusal, read.refusal));
+        }
+        self.end(comparison)?;
+        self.count_volume_duty(string, result);
+        Ok(result)
+    }
+
+    /// Counts a volume duty.
+    fn count_volume_duty(&mut self, string: &[u8], result: Result<u64, u64>) {
+        let fault = volume::entries_of(string).err();
+        self.tally.call("volume duty", &fault.map_or(answer(&result), answer_of_fault), None);
+        let mut special = |holds: bool, what: &str| {
+            if holds {
+                self.tally.special(what, None);
+            }
+        };
+        let entries = volume::entries_before_fault(string);
+        let cents = duty::of_entries(&entries);
+        if let Some(fault) = fault {
+            special(cents > 0, &format!("{} after entries with duty in volume duty", fault.refusal()));
+            special(cents > 0 && fault == Fault::BytesAfter, "bytes after entries with duty in volume duty");
+            special(is_14_at_end(string, fault), "14 at the end of the string in volume duty");
+            return;
+        }
+        let undivided: Vec<u128> = entries.chunks(4).map(duty::undivided).collect();
+        let has_part_of = |product: u32| entries.chunks(4).any(|entry| entry[3] == product && entry[1] > 0 && entry[2] > 0);
+        special(entries.is_empty(), "volume duty of no entries");
+        special(entries.len() == 8_000, "volume duty of 2,000 entries");
+        special(!entries.is_empty() && cents == 0, "volume duty of 0 on entries");
+        special((1..=8).all(has_part_of), "volume duty on all eight products");
+        special(undivided.iter().any(|product| *product > u32::MAX as u128), "volume duty, product of more than 32 bits");
+        special(undivided.iter().sum::<u128>() / 10_000 > cents as u128, "volume duty, less than the sum cut down");
+        special(cents > u32::MAX as u64, "volume duty of more than 32 bits");
     }
 }

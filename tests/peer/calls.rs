@@ -1,6 +1,6 @@
 //! The eight calls of an engine and its checkpoints: the refusals in their order, then what an accepted call does. Document 01
 //! states seven of them, requests (a), (b) and (g) of document 02 change them, and the C header states the eighth, checkpoint
-//! length. The three calls of request (d) are in volume.rs.
+//! length. The three calls of request (d) are in volume.rs and the one of request (e) in duty.rs.
 
 use crate::ciphers::{self, Cipher};
 

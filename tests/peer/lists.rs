@@ -359,7 +359,8 @@ impl List<'_> {
         random_volumes::entries_of_length(&mut self.random, length).unwrap_or_else(|| any_entries(&mut self.random))
     }
 
-    /// Writes a volume and enciphers it, whole or damaged. What was enciphered is sometimes deciphered at the same position.
+    /// Writes a volume and enciphers it, whole or damaged, with the duty on the bytes before and after. What was enciphered is
+    /// sometimes deciphered at the same position.
     fn encipher_volume(&mut self) -> Result<(), String> {
         let entries = self.entries();
         let length = volume::volume_of(&entries).len() + self.random.pick(&[0, 0, 1, 50]);
@@ -368,9 +369,11 @@ impl List<'_> {
         if self.random.once_in(3) {
             volume = random_volumes::damaged(&mut self.random, volume);
         }
+        let _ = self.both.volume_duty(&volume)?;
         let words = self.words(self.both.head.code);
         let agreed = self.both.encipher_volume(words, &volume);
         let Ok(enciphered) = self.end(agreed)? else { return Ok(()) };
+        let _ = self.both.volume_duty(&enciphered)?;
         if let Some(count) = &mut self.count {
             count.cipher(volume.len());
         }
@@ -385,7 +388,7 @@ impl List<'_> {
         Ok(())
     }
 
-    /// Reads a volume, whole or damaged, into a list that is long enough or one number too short.
+    /// Reads a volume, whole or damaged, into a list that is long enough or one number too short, and takes the duty on it.
     fn read_volume(&mut self) -> Result<(), String> {
         let entries = any_entries(&mut self.random);
         let mut string = volume::volume_of(&entries);
@@ -394,7 +397,8 @@ impl List<'_> {
         }
         let room = (entries.len() + self.random.pick(&[0, 1, 2, 9])).saturating_sub(1);
         let list = self.random.words(room);
-        self.both.read_volume(&string, &list).map(|_| ())
+        let _ = self.both.read_volume(&string, &list)?;
+        self.both.volume_duty(&string).map(|_| ())
     }
 
     fn distance(&mut self) -> i64 {

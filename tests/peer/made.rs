@@ -1,9 +1,10 @@
 //! Cases made by hand, with the answer that document 01, request (a) or (g) of document 02 or the C header gives for each. Those
-//! of request (b) are in marks.rs and those of request (d) in volumes.rs.
+//! of request (b) are in marks.rs, those of request (d) in volumes.rs and those of request (e) in duties.rs.
 
 use crate::both::{Agreed, Both};
 use crate::calls::{self, Head, FRESH, LIMIT};
 use crate::ciphers::{self, Cipher};
+use crate::duties;
 use crate::marks;
 use crate::random::Random;
 use crate::tally::Tally;
@@ -680,5 +681,6 @@ pub fn run(seed: u64, tally: &mut Tally) -> Result<(), String> {
         volumes::run(&mut random, cipher, tally)?;
     }
     words_not_twice(&mut random, tally)?;
-    length_examples(&mut random, tally)
+    length_examples(&mut random, tally)?;
+    duties::run(tally)
 }

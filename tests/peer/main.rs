@@ -5,6 +5,8 @@ mod both;
 mod calls;
 mod ciphers;
 mod count;
+mod duties;
+mod duty;
 mod lent;
 mod lists;
 mod made;

@@ -2,6 +2,7 @@
 
 use crate::both::Both;
 use crate::calls::{self, FRESH};
+use crate::duty;
 use crate::random::Random;
 use crate::tally::Tally;
 use crate::volume::{self, Number, COUNT, ENTRY};
@@ -197,11 +198,12 @@ fn list_to_write(random: &mut Random) -> Vec<u32> {
     list
 }
 
-/// Writes a list and reads it back.
+/// Writes a list, takes the duty on what is written and reads it back.
 fn write_and_read(random: &mut Random, both: &mut Both) -> Result<(), String> {
     let list = list_to_write(random);
     let length = near(random, volume::volume_of(&list).len());
     if let Ok(volume) = both.write_volume(&list, &random.bytes(length))? {
+        must(both.volume_duty(&volume)? == Ok(duty::of_entries(&list)), "the duty is the one on the written entries")?;
         let room = near(random, list.len()).max(list.len());
         let before = random.words(room);
         let expected = (list.len() as u64 / 4, [&list[..], &before[list.len()..]].concat());
@@ -210,7 +212,7 @@ fn write_and_read(random: &mut Random, both: &mut Both) -> Result<(), String> {
     Ok(())
 }
 
-/// Reads a volume, whole or damaged, and writes it back.
+/// Takes the duty on a volume, whole or damaged, reads it and writes it back.
 fn read_and_write(random: &mut Random, both: &mut Both) -> Result<(), String> {
     let entries = any_entries(random);
     let mut string = volume::volume_of(&entries);
@@ -218,9 +220,18 @@ fn read_and_write(random: &mut Random, both: &mut Both) -> Result<(), String> {
         string = damaged(random, string);
     }
     let room = near(random, entries.len());
-    if let Ok((count, list)) = both.read_volume(&string, &random.words(room))? {
+    let owed = both.volume_duty(&string)?;
+    let read = both.read_volume(&string, &random.words(room))?;
+    let refusal_of_reading = read.as_ref().err().copied();
+    if refusal_of_reading == Some(8) {
+        both.tally.special("volume duty where read volume gets 8", None);
+    }
+    must(owed.err() == refusal_of_reading.filter(|refusal| *refusal != 8), "reading gives the refusal of the duty, or 8")?;
+    if let Ok((count, list)) = read {
+        let list = &list[..4 * count as usize];
+        must(owed == Ok(duty::of_entries(list)), "the duty is the one on the entries read")?;
         let lent = near(random, string.len()).max(string.len());
-        let written = both.write_volume(&list[..4 * count as usize], &random.bytes(lent))?;
+        let written = both.write_volume(list, &random.bytes(lent))?;
         must(written == Ok(string), "what is read is written back as the same bytes")?;
     }
     Ok(())

@@ -18,8 +18,33 @@ enum Where {
     All,
 }
 
+/// The answers for strings that are not volumes.
+const NO_VOLUME: [(&str, Where); 21] = [
+    ("16 ends before the last group, count", Neither),
+    ("16 ends before the last group, minutes", Neither),
+    ("16 ends before the last group, litres", Neither),
+    ("16 ends before the last group, ratio", Neither),
+    ("16 ends before the last group, product", Neither),
+    ("14 not in shortest form, count", Neither),
+    ("14 not in shortest form, minutes", Neither),
+    ("14 not in shortest form, litres", Neither),
+    ("14 not in shortest form, ratio", Neither),
+    ("14 not in shortest form, product", Neither),
+    ("14 third group announces another, count", Neither),
+    ("14 third group announces another, minutes", Neither),
+    ("14 third group announces another, litres", Neither),
+    ("14 third group announces another, ratio", Neither),
+    ("14 third group announces another, product", Neither),
+    ("15 out of range, count", Neither),
+    ("15 out of range, minutes", Neither),
+    ("15 out of range, litres", Neither),
+    ("15 out of range, ratio", Neither),
+    ("15 out of range, product", Neither),
+    ("16 bytes after the last entry", Neither),
+];
+
 /// For each call the answers that it must give.
-const EXPECTED: [(&str, &[(&str, Where)]); 11] = [
+const EXPECTED: [(&str, &[(&str, Where)]); 14] = [
     ("set up", &[("accepted", Ciphers), ("1", Neither), ("2", Ciphers), ("3", Ciphers), ("4", Ciphers)]),
     ("cipher", &[("accepted", Ciphers), ("1", Neither), ("4", Ciphers), ("5", Ciphers), ("13", Ciphers), ("6", Ciphers)]),
     (
@@ -70,34 +95,10 @@ const EXPECTED: [(&str, &[(&str, Where)]); 11] = [
             ("8", Neither),
         ],
     ),
-    (
-        "read volume",
-        &[
-            ("accepted", Neither),
-            ("16 ends before the last group, count", Neither),
-            ("16 ends before the last group, minutes", Neither),
-            ("16 ends before the last group, litres", Neither),
-            ("16 ends before the last group, ratio", Neither),
-            ("16 ends before the last group, product", Neither),
-            ("14 not in shortest form, count", Neither),
-            ("14 not in shortest form, minutes", Neither),
-            ("14 not in shortest form, litres", Neither),
-            ("14 not in shortest form, ratio", Neither),
-            ("14 not in shortest form, product", Neither),
-            ("14 third group announces another, count", Neither),
-            ("14 third group announces another, minutes", Neither),
-            ("14 third group announces another, litres", Neither),
-            ("14 third group announces another, ratio", Neither),
-            ("14 third group announces another, product", Neither),
-            ("15 out of range, count", Neither),
-            ("15 out of range, minutes", Neither),
-            ("15 out of range, litres", Neither),
-            ("15 out of range, ratio", Neither),
-            ("15 out of range, product", Neither),
-            ("16 bytes after the last entry", Neither),
-            ("8", Neither),
-        ],
-    ),
+    ("read volume", &[("accepted", Neither), ("8", Neither)]),
+    ("read volume", &NO_VOLUME),
+    ("volume duty", &[("accepted", Neither)]),
+    ("volume duty", &NO_VOLUME),
     (
         "encipher volume",
         &[
@@ -184,7 +185,7 @@ const SPECIAL: [&str; 63] = [
 ];
 
 /// Calls of special interest that must occur where the code names no cipher or the call takes none.
-const SPECIAL_WITHOUT_CIPHER: [&str; 19] = [
+const SPECIAL_WITHOUT_CIPHER: [&str; 32] = [
     "14, 15 or 16 before 1 in encipher volume",
     "write volume of no entries",
     "write volume of 2,000 entries",
@@ -204,6 +205,19 @@ const SPECIAL_WITHOUT_CIPHER: [&str; 19] = [
     "16 before 8 in read volume",
     "16 for bytes after before 8 in read volume",
     "14 at the end of the string in read volume",
+    "volume duty of no entries",
+    "volume duty of 2,000 entries",
+    "volume duty of 0 on entries",
+    "volume duty on all eight products",
+    "volume duty, product of more than 32 bits",
+    "volume duty, less than the sum cut down",
+    "volume duty of more than 32 bits",
+    "volume duty where read volume gets 8",
+    "14 after entries with duty in volume duty",
+    "15 after entries with duty in volume duty",
+    "16 after entries with duty in volume duty",
+    "bytes after entries with duty in volume duty",
+    "14 at the end of the string in volume duty",
 ];
 
 #[derive(Default)]

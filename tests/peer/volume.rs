@@ -105,11 +105,10 @@ fn next(string: &mut &[u8], number: &'static Number) -> Result<u32, Fault> {
     Ok(value)
 }
 
-/// The entries of a volume as one list, or the first fault.
-pub fn entries_of(volume: &[u8]) -> Result<Vec<u32>, Fault> {
+/// Adds the numbers of a volume's entries to a list, up to the first fault.
+fn read_into(volume: &[u8], entries: &mut Vec<u32>) -> Result<(), Fault> {
     let mut left = volume;
     let count = next(&mut left, &COUNT)?;
-    let mut entries = Vec::new();
     for _ in 0..count {
         for number in &ENTRY {
             entries.push(next(&mut left, number)?);
@@ -118,7 +117,22 @@ pub fn entries_of(volume: &[u8]) -> Result<Vec<u32>, Fault> {
     if !left.is_empty() {
         return Err(Fault::BytesAfter);
     }
+    Ok(())
+}
+
+/// The entries of a volume as one list, or the first fault.
+pub fn entries_of(volume: &[u8]) -> Result<Vec<u32>, Fault> {
+    let mut entries = Vec::new();
+    read_into(volume, &mut entries)?;
     Ok(entries)
+}
+
+/// The whole entries before the first fault as one list.
+pub fn entries_before_fault(volume: &[u8]) -> Vec<u32> {
+    let mut entries = Vec::new();
+    let _ = read_into(volume, &mut entries);
+    entries.truncate(entries.len() / 4 * 4);
+    entries
 }
 
 /// Read volume, which returns the count. Later elements of the list stay.

@@ -120,7 +120,7 @@ fn three_with_all(others: &[(usize, &[u8])]) -> Vec<u8> {
 }
 
 /// The bytes of a value of up to three groups.
-fn bytes_of(value: u32) -> Vec<u8> {
+pub fn bytes_of(value: u32) -> Vec<u8> {
     let groups = [value % 128, value / 128 % 128, value / 16_384].map(|group| group as u8);
     match value {
         0..=127 => vec![groups[0]],
@@ -165,7 +165,7 @@ fn faults(place: usize) -> Vec<(Vec<u8>, u64)> {
 }
 
 /// Reading and enciphering of a string that is a volume of these entries. Reading is refused with 8 where the list is too short,
-/// and leaves the later elements of a longer one.
+/// and leaves the later elements of a longer one. The duty on it is not refused; duties.rs has the cents of other volumes.
 fn is_volume(case: &str, both: &mut Both, string: &[u8], entries: &[u32]) -> Result<(), String> {
     let count = entries.len() as u64 / 4;
     for room in [entries.len(), entries.len() + 1, entries.len() + 9] {
@@ -176,6 +176,10 @@ fn is_volume(case: &str, both: &mut Both, string: &[u8], entries: &[u32]) -> Res
     let too_short = [1, 2, 3, 4, 5, entries.len()].into_iter().filter(|less| (1..=entries.len()).contains(less));
     for room in too_short.map(|less| entries.len() - less) {
         expect(&format!("list of {room}, {case}"), both.read_volume(string, &vec![7; room]), Err(8))?;
+    }
+    let owed = both.volume_duty(string).map_err(|text| format!("{case}, {text}"))?;
+    if owed.is_err() {
+        return Err(format!("duty, {case}: both sides say {owed:?}"));
     }
     enciphers_as_cipher(case, both, string, entries)
 }
@@ -213,11 +217,12 @@ fn enciphers_as_cipher(case: &str, both: &mut Both, volume: &[u8], entries: &[u3
     Ok(())
 }
 
-/// Reading and enciphering of a string that is refused, with lists of any length.
+/// Reading and enciphering of a string that is refused, with lists of any length, and the duty on it.
 fn is_refused(case: &str, both: &mut Both, string: &[u8], refusal: u64) -> Result<(), String> {
     for room in [0, 3, 12, 40] {
         expect(&format!("list of {room}, {case}"), both.read_volume(string, &vec![7; room]), Err(refusal))?;
     }
+    expect(&format!("duty, {case}"), both.volume_duty(string), Err(refusal))?;
     let (head, area) = (both.head, both.area.clone());
     expect(&format!("encipher, {case}"), both.encipher_volume(area.len(), string), Err(refusal))?;
     if both.head != head || both.area != area {
@@ -504,6 +509,7 @@ fn every_two_bytes(both: &mut Both) -> Result<(), String> {
         for two in 0..=u16::MAX {
             let string = [&start[..], &two.to_le_bytes(), &rest].concat();
             let _ = both.read_volume(&string, &[7; 8]).map_err(|text| format!("{string:x?}, {text}"))?;
+            let _ = both.volume_duty(&string).map_err(|text| format!("{string:x?}, {text}"))?;
         }
     }
     Ok(())

@@ -1,7 +1,9 @@
-// The cases of document 02 (d), the shift volume: reading, writing and enciphering, a line each, `ok` or `wrong`.
+// The cases of document 02 (d), the shift volume, and (e), the duty on it: reading, writing, enciphering and the duty, a line each, `ok` or `wrong`.
+use table::DUTY;
 use table::READ;
 use table::WRITE;
 
+mod duties;
 mod enciphering;
 mod lent;
 mod many;
@@ -233,6 +235,51 @@ no entry, nine bytes lent: 00: 9 gets 0
     );
 }
 
+// The document's example; each product's rate; amounts on both sides of a whole cent, alone and several of them; no duty at all; and refusals after an
+// entry that owes some.
+fn duty() {
+    table::each(
+        DUTY,
+        b"\
+1000 litres at 525 of product 4: 01 00 e8 07 8d 04 04: gets 0 owes 3150
+the same after 15 minutes: 01 0f e8 07 8d 04 04: gets 0 owes 3150
+1000 litres at 525 of product 4 and 20000 at 610 of product 2: 02 00 e8 07 8d 04 04 0f a0 9c 01 e2 04 02: gets 0 owes 119050
+no entry: 00: gets 0 owes 0
+100 litres at 10000 of product 1: 01 00 64 90 4e 01: gets 0 owes 12000
+100 litres at 10000 of product 2: 01 00 64 90 4e 02: gets 0 owes 9500
+100 litres at 10000 of product 3: 01 00 64 90 4e 03: gets 0 owes 9500
+100 litres at 10000 of product 4: 01 00 64 90 4e 04: gets 0 owes 6000
+100 litres at 10000 of product 5: 01 00 64 90 4e 05: gets 0 owes 4000
+100 litres at 10000 of product 6: 01 00 64 90 4e 06: gets 0 owes 4000
+100 litres at 10000 of product 7: 01 00 64 90 4e 07: gets 0 owes 1500
+100 litres at 10000 of product 8: 01 00 64 90 4e 08: gets 0 owes 0
+100000 litres at 10000 of product 1: 01 00 a0 8d 06 90 4e 01: gets 0 owes 12000000
+100000 litres at 10000 of product 8: 01 00 a0 8d 06 90 4e 08: gets 0 owes 0
+0 litres at 10000 of product 1: 01 00 00 90 4e 01: gets 0 owes 0
+100000 litres at 0 of product 1: 01 00 a0 8d 06 00 01: gets 0 owes 0
+1 litre at 83 of product 1, 9960 ten-thousandths of a cent: 01 00 01 53 01: gets 0 owes 0
+1 litre at 84 of product 1, 10080: 01 00 01 54 01: gets 0 owes 1
+1 litre at 666 of product 7, 9990: 01 00 01 9a 05 07: gets 0 owes 0
+1 litre at 667 of product 7, 10005: 01 00 01 9b 05 07: gets 0 owes 1
+1 litre at 500 of product 5, 20000: 01 00 01 f4 03 05: gets 0 owes 2
+83 litres at 1 of product 1, 9960: 01 00 53 01 01: gets 0 owes 0
+twice 9960: 02 00 01 53 01 00 01 53 01: gets 0 owes 0
+three times 9990: 03 00 01 9a 05 07 00 01 9a 05 07 00 01 9a 05 07: gets 0 owes 0
+9960 and 10080: 02 00 01 53 01 00 01 54 01: gets 0 owes 1
+10080 and 9960: 02 00 01 54 01 00 01 53 01: gets 0 owes 1
+twice 10080: 02 00 01 54 01 00 01 54 01: gets 0 owes 2
+3150 cents, next minutes malformed: 02 00 e8 07 8d 04 04 80 00 00 00 01: gets 14 owes 0
+3150 cents, next litres 100001: 02 00 e8 07 8d 04 04 00 a1 8d 06 00 01: gets 15 owes 0
+3150 cents, next product 9: 02 00 e8 07 8d 04 04 00 00 00 09: gets 15 owes 0
+3150 cents, next product missing: 02 00 e8 07 8d 04 04 00 00 00: gets 16 owes 0
+3150 cents, next entry missing: 02 00 e8 07 8d 04 04: gets 16 owes 0
+3150 cents and a byte after the entry: 01 00 e8 07 8d 04 04 00: gets 16 owes 0
+product 0: 01 00 e8 07 8d 04 00: gets 15 owes 0
+product 9: 01 00 e8 07 8d 04 09: gets 15 owes 0
+",
+    );
+}
+
 // Enciphering from 0, from inside a word, on both sides of the mark, of no entry, and up to the limit. Then each refusal of cipher, where the volume
 // is sound, and each of the volume's before it; and cipher's own, each before the next.
 fn encipher(code: u32) {
@@ -289,6 +336,7 @@ fn main() {
     write();
     many::most();
     many::over();
+    duty();
     encipher(1);
     encipher(2);
 }

@@ -1,14 +1,22 @@
-// Volumes of 2,000 entries, written and read, and lists of more.
+// Volumes of 2,000 entries, written and read, and their duty; and lists of more.
 ghost use Prim.Native.Nat.{_≤_};
 ghost use lib.ListN.{length};
+use crate::duties::owes;
 use crate::lent::fill_bytes;
 use crate::lent::fill_list;
 use crate::table::reads;
 use crate::table::writes;
 
-// A list of 2,000 entries of these four numbers, and its volume: the count, and then these eight bytes, which are one entry or two, over and over. A
-// byte more is lent than the volume has, and an element more than its entries have.
-fn alike(case: &[u8], list: &mut [u32], entry: [u32; 4], string: &mut [u8], eight: [u8; 8])
+// A list of 2,000 entries of these four numbers, and its volume: the count, and then these eight bytes, which are one entry or two, over and over; and
+// its duty. A byte more is lent than the volume has, and an element more than its entries have.
+fn alike(
+    case: &[u8],
+    list: &mut [u32],
+    entry: [u32; 4],
+    string: &mut [u8],
+    eight: [u8; 8],
+    cents: u64,
+)
     requires { ⌜ (length (now list) ≤ 8000) × (length (now string) ≤ 16002) ⌝ }
 {
     let numbers = list.len();
@@ -17,20 +25,33 @@ fn alike(case: &[u8], list: &mut [u32], entry: [u32; 4], string: &mut [u8], eigh
     fill_bytes(string, b"\xd0\x0f", eight);
     writes(case, list, bytes + 1, 0, string);
     reads(case, string, numbers + 1, 0, list);
+    owes(case, string, 0, cents);
 }
 
-// The smallest entry has 4 bytes and the largest 8, and the count of 2,000 has 2.
+// The smallest entry has 4 bytes and the largest 8, and the count of 2,000 has 2. No volume owes more than the third.
 pub fn most() {
     let mut list = [0u32; 8000];
     let mut other = [0u32; 8000];
+    let mut third = [0u32; 8000];
     let mut short = [0u8; 8002];
     let mut long = [0u8; 16002];
+    let mut same_length = [0u8; 16002];
     let small = [0, 0, 0, 1];
     let two = [0, 0, 0, 1, 0, 0, 0, 1];
     let large = [1440, 100_000, 10_000, 8];
     let one = [0xa0, 0x0b, 0xa0, 0x8d, 0x06, 0x90, 0x4e, 0x08];
-    alike(b"2000 smallest:", &mut list, small, &mut short, two);
-    alike(b"2000 largest:", &mut other, large, &mut long, one);
+    let dear = [1440, 100_000, 10_000, 1];
+    let its = [0xa0, 0x0b, 0xa0, 0x8d, 0x06, 0x90, 0x4e, 0x01];
+    alike(b"2000 smallest:", &mut list, small, &mut short, two, 0);
+    alike(b"2000 largest:", &mut other, large, &mut long, one, 0);
+    alike(
+        b"2000 largest of product 1:",
+        &mut third,
+        dear,
+        &mut same_length,
+        its,
+        24_000_000_000,
+    );
 }
 
 // Writes a list that begins with these numbers, goes on with smallest entries and is too long.

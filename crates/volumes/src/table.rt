@@ -1,8 +1,10 @@
 // Tables of cases, in text. A line is a case: its name up to `:`, the bytes of a volume in hexadecimal, each after a space, up to `:`, and numbers in
 // other text. For reading and writing these are the size of what is lent, the refusal number, which is 0 where the case is accepted, and the numbers
-// of entries. A refused case has no entries to read, or no bytes to write.
+// of entries. A refused case has no entries to read, or no bytes to write. For the duty they are the refusal number and the cents.
 ghost use Prim.Native.Nat.{_≤_};
 ghost use lib.ListN.{length};
+use crate::duties::owes;
+use crate::duties::refuses_as_reading;
 use crate::enciphering::enciphers;
 use crate::lent::BYTES;
 use crate::lent::NUMBERS;
@@ -16,6 +18,8 @@ use crate::lent::list_is;
 pub const READ: u32 = 0;
 
 pub const WRITE: u32 = 3;
+
+pub const DUTY: u32 = 4;
 
 // Whether reading a string into a list gives this refusal number and these entries.
 pub fn read_is(string: &[u8], list: &mut [u32], refusal: u64, entries: &[u32]) -> bool {
@@ -154,8 +158,11 @@ fn run(call: u32, case: &[u8], string: &[u8], numbers: &[u32]) {
     let size = size_of(numbers[0]);
     let refusal = wide(numbers[1]);
     let list = &numbers[2..];
-    if call == READ {
+    if call == DUTY {
+        owes(case, string, wide(numbers[0]), refusal);
+    } else if call == READ {
         reads(case, string, size, refusal, list);
+        refuses_as_reading(case, string, refusal);
     } else if call == WRITE {
         writes(case, list, size, refusal, string);
     } else {

@@ -1,0 +1,24 @@
+//! The component duty of request (e) of document 02 on a shift volume.
+
+use crate::volume::{self, Fault};
+
+/// The rates in cents per litre of products 1 to 8.
+const RATES: [u128; 8] = [120, 95, 95, 60, 40, 40, 15, 0];
+
+/// The litres of an entry times its ratio times the rate of its product.
+pub fn undivided(entry: &[u32]) -> u128 {
+    let [litres, ratio] = [entry[1], entry[2]].map(u128::from);
+    litres * ratio * RATES[entry[3] as usize - 1]
+}
+
+/// The duty on a list of whole entries: each entry's is cut down to whole cents before the sum is taken.
+pub fn of_entries(list: &[u32]) -> u64 {
+    let cents: u128 = list.chunks(4).map(|entry| undivided(entry) / 10_000).sum();
+    u64::try_from(cents).unwrap()
+}
+
+/// Volume duty, which returns the cents: the refusals of reading without 8, then the duty on the entries.
+pub fn volume_duty(volume: &[u8]) -> Result<u64, u64> {
+    let entries = volume::entries_of(volume).map_err(Fault::refusal)?;
+    Ok(of_entries(&entries))
+}
