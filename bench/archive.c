@@ -103,7 +103,7 @@ static int64_t read_volume(const uint8_t *volume, size_t volume_bytes, uint32_t 
 #define read_volume NULL
 #endif
 
-/* Nor may it have the duty. */
+/* An earlier archive may have no duty. */
 #ifdef HC_MOST_DUTY
 static int64_t duty(const uint8_t *volume, size_t volume_bytes, size_t times)
 {

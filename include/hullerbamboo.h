@@ -8,7 +8,7 @@
  * and every byte and number that you lent keep their values. Keys, IVs and keystream are bytes; an area is 32-bit words; a position counts bytes. No
  * structure below has padding, so a call writes no byte of a head, or of what it returns, that is not the value of a field.
  *
- * Your duties, which C cannot check and the proofs take for granted:
+ * Your obligations, which C cannot check and the proofs take for granted:
  *   - A pointer is not null and points to as many elements as the length after it says, aligned for its type, for the whole call.
  *   - Of what you lend to one call (head, area, bytes, buffers), nothing that the call writes may overlap anything else. It writes to what is
  *     not const. Inputs that are const may overlap one another.
@@ -215,7 +215,7 @@ struct hc_count hc_read_volume(const uint8_t *volume, size_t volume_bytes, uint3
 uint64_t hc_encipher_volume(struct hc_head *head, uint32_t *area, size_t area_words, uint8_t *volume, size_t volume_bytes);
 
 /* Volume duty: the component duty on a volume, in whole cents. volume is the volume and no byte more, and not enciphered.
- * Refusals: 16, 14, 15 as hc_read_volume. Stack: ??? bytes. */
+ * Refusals: 16, 14, 15 as hc_read_volume. Stack: 72 bytes. */
 struct hc_duty hc_volume_duty(const uint8_t *volume, size_t volume_bytes);
 
 #ifdef __cplusplus

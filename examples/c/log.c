@@ -102,6 +102,20 @@ static void log_shift(void)
     check("volume duty", duty.refusal);
     printf("duty on the first entry alone: %" PRIu64 " cents\n", duty.cents);
 
+    /* No volume owes more than HC_MOST_DUTY, and 2,000 such entries owe as much. */
+    static uint32_t most[HC_VOLUME_ENTRIES * HC_ENTRY_NUMBERS];
+    static uint8_t longest[HC_VOLUME_BYTES];
+    for (size_t i = 0; i < HC_VOLUME_ENTRIES; i++) {
+        most[HC_ENTRY_NUMBERS * i + 1] = 100000;
+        most[HC_ENTRY_NUMBERS * i + 2] = 10000;
+        most[HC_ENTRY_NUMBERS * i + 3] = 1;
+    }
+    struct hc_length most_written = hc_write_volume(most, HC_VOLUME_ENTRIES * HC_ENTRY_NUMBERS, longest, sizeof longest);
+    check("write volume", most_written.refusal);
+    duty = hc_volume_duty(longest, most_written.length);
+    check("volume duty", duty.refusal);
+    printf("the greatest duty: %" PRIu64 " cents, which is %sHC_MOST_DUTY\n", duty.cents, duty.cents == HC_MOST_DUTY ? "" : "not ");
+
     /* A volume that is cut is refused with 16, and has no duty. */
     duty = hc_volume_duty(volume, written.length - 1);
     printf("duty on that volume without its last byte: refused with %" PRIu64 ", %" PRIu64 " cents\n", duty.refusal, duty.cents);

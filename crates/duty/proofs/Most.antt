@@ -2,7 +2,7 @@
 use mathlib.Core.Path.{_≡_, refl, sym, _∙_}
 use mathlib.Core.Bool.{true}
 use mathlib.Core.List.{List, [], _∷_}
-use Prim.Native.Nat.{ℕ, zero, suc, _+_, _*_, _/_, _≤_}
+use Prim.Native.Nat.{ℕ, zero, suc, _+_, _-_, _*_, _/_, _≤_}
 use native.Mathlib.Nat.{mul-le-mul, div-le-of-le-mul}
 use native.Mathlib.Omega.{arith}
 use lib.ListN.{length, getD}
@@ -26,7 +26,7 @@ module _ (most : ℕ) where
 
   module _ (rates : List ℕ) (h : RatesAtMost most rates) where
     pub rate-most : (product : ℕ) → rateOf rates product ≤ most
-    rate-most product = element-most rates h _
+    rate-most product = element-most (0 ∷ rates) (omega arith, h) product
 
     pub exact-most : (e : Entry) → e .litres ≤ 100000 → e .ratio ≤ 10000 → exactDuty rates e ≤ 1000000000 * most
     exact-most e l r = mul-le-mul (mul-le-mul l r) (rate-most (e .product))
@@ -43,6 +43,11 @@ module _ (most : ℕ) where
         let others = entries-most entries (and-right (entryInRange e) (entriesInRange entries) t) in
         let one = entry-most e (range-most litresRange (e .litres) (litres-in e first)) (range-most ratioRange (e .ratio) (ratio-in e first)) in
         omega (arith, one, others)
+
+-- the place of a product's rate
+pub rate-place : (rates : List ℕ) (product : ℕ) → 1 ≤ product → getD rates (product - 1) 0 ≡ rateOf rates product
+rate-place rates zero h = absurd (omega arith)
+rate-place rates (suc p) h = let e : suc p - 1 ≡ p = omega arith in rw e
 
 pub our-rates-most : RatesAtMost 120 ourRates
 our-rates-most =

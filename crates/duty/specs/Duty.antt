@@ -1,6 +1,6 @@
 -- Document 02 (e), duty on the blended part: the rates, the duty of an entry and of a list of entries.
 use mathlib.Core.List.{List, [], _∷_}
-use Prim.Native.Nat.{ℕ, _+_, _-_, _*_, _/_}
+use Prim.Native.Nat.{ℕ, _+_, _*_, _/_}
 use lib.ListN.{getD}
 use Rattle.volume.specs.declared.Entry.{Entry}
 
@@ -8,11 +8,11 @@ use Rattle.volume.specs.declared.Entry.{Entry}
 abbrev pub ourRates : List ℕ
 ourRates = 120 ∷ 95 ∷ 95 ∷ 60 ∷ 40 ∷ 40 ∷ 15 ∷ 0 ∷ []
 
--- the rate of a product in a table of rates, whose first is that of product 1
+-- the rate of a product in a table of rates, whose first is that of product 1; 0 where the table has none
 abbrev pub rateOf : (rates : List ℕ) (product : ℕ) → ℕ
-rateOf rates product = getD rates (product - 1) 0
+rateOf rates product = getD (0 ∷ rates) product 0
 
--- 'For an entry it is litres times ratio times rate,
+-- 'For an entry it is litres times ratio times rate, (in ten-thousandths of a cent)
 abbrev pub exactDuty : (rates : List ℕ) → Entry → ℕ
 exactDuty rates e = e .litres * e .ratio * rateOf rates (e .product)
 

@@ -42,7 +42,7 @@ fn exact_duty(entry: Entry) -> u64
 
 // The duty on a volume: the sum over its entries, each cut down to whole cents. Each number is read once.
 pub fn volume_duty(string: &[u8]) -> DutyAnswer
-    ensures { λ r. ⌜ Calls.dutyGiven r ≡ Calls.volumeDutyCall (now (string .entry)) ⌝ }
+    ensures { λ r. ⌜ Calls.dutyGiven r ≡ Calls.volumeDutyCall Duty.ourRates (now (string .entry)) ⌝ }
 {
     let count = volume::reading::read_value(string, 0, 0, volume::MOST_ENTRIES);
     let count_refusal = count.refusal;

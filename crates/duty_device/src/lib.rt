@@ -1,13 +1,14 @@
 // The duty's part of the box's interface, for C. It is compiled apart from the other calls, since the compiler copies the check of an entry into a loop
 // only where nothing else calls it.
 ghost use mathlib.Core.Path.{_≡_};
+ghost use Rattle.duty.specs.Duty as Duty;
 ghost use Rattle.duty.specs.Calls as Calls;
 use duty::DutyAnswer;
 
 // Volume duty: the component duty on a volume, in whole cents.
 #[no_mangle]
 pub extern "C" fn hc_volume_duty(string: &[u8]) -> DutyAnswer
-    ensures { λ r. ⌜ Calls.dutyGiven r ≡ Calls.volumeDutyCall (now (string .entry)) ⌝ }
+    ensures { λ r. ⌜ Calls.dutyGiven r ≡ Calls.volumeDutyCall Duty.ourRates (now (string .entry)) ⌝ }
 {
     duty::volume_duty(string)
 }

@@ -1,10 +1,10 @@
 -- What document 02 (e) says of the duty. Assumes nothing.
 use mathlib.Core.Path.{_≡_, refl, sym, ap, _∙_}
 use mathlib.Core.Bool.{Bool, true, false}
-use mathlib.Core.List.{List, [], _∷_}
+use mathlib.Core.List.{List, [], _∷_, _++_}
 use mathlib.Core.Logic.{_↔_}
 use Prim.Native.Nat.{ℕ, zero, suc, _+_, _*_, _/_, _≤_, _<_}
-use native.Mathlib.Nat.{mul-le-mul-right}
+use native.Mathlib.Nat.{add-zero, zero-add, mul-le-mul-right}
 use native.Mathlib.Omega.{arith}
 use lib.ListN.{length, replicate, length-replicate}
 use Rattle.laws.specs.Result.{Result, refused, accepted, _>>=_}
@@ -37,29 +37,41 @@ entry-owes : (rates : List ℕ) (e : Entry) (cents : ℕ)
 unfolding entryDuty
 entry-owes rates e cents = cut-down (e .litres * e .ratio * rateOf rates (e .product)) cents
 
+-- ── entries ──
+
+one-entry : (rates : List ℕ) (e : Entry) → entriesDuty rates (e ∷ []) ≡ entryDuty rates e
+unfolding entriesDuty
+one-entry rates e = add-zero (entryDuty rates e)
+
+sums : (rates : List ℕ) (entries others : List Entry) → entriesDuty rates (entries ++ others) ≡ entriesDuty rates entries + entriesDuty rates others
+unfolding entriesDuty
+sums rates [] others = sym (zero-add (entriesDuty rates others))
+sums rates (e ∷ entries) others = omega (arith, sums rates entries others)
+
 -- ── a volume ──
 
--- the last line of the call
-owes : (r : Result (List Entry)) (cents : ℕ) → (r >>= λ entries. accepted (entriesDuty ourRates entries)) ≡ accepted cents
-    → (entries : List Entry) × (r ≡ accepted entries) × (entriesDuty ourRates entries ≡ cents)
-owes (refused n) cents e = no-refusal (sym e)
-owes (accepted entries) cents e = (entries, refl, accepted-one refl e)
+module _ (rates : List ℕ) where
+  -- the last line of the call
+  owes : (r : Result (List Entry)) (cents : ℕ) → (r >>= λ entries. accepted (entriesDuty rates entries)) ≡ accepted cents
+      → (entries : List Entry) × (r ≡ accepted entries) × (entriesDuty rates entries ≡ cents)
+  owes (refused n) cents e = no-refusal (sym e)
+  owes (accepted entries) cents e = (entries, refl, accepted-one refl e)
 
-duty-shows : (string : List ℕ) (cents : ℕ) → volumeDuty string ≡ accepted cents
-    → (entries : List Entry) × (entriesIn string ≡ accepted entries) × (entriesDuty ourRates entries ≡ cents)
-unfolding volumeDuty
-duty-shows string cents e = owes (entriesIn string) cents e
+  duty-shows : (string : List ℕ) (cents : ℕ) → volumeDuty rates string ≡ accepted cents
+      → (entries : List Entry) × (entriesIn string ≡ accepted entries) × (entriesDuty rates entries ≡ cents)
+  unfolding volumeDuty
+  duty-shows string cents e = owes (entriesIn string) cents e
 
-duty-is : (string : List ℕ) (entries : List Entry) → entriesIn string ≡ accepted entries → volumeDuty string ≡ accepted (entriesDuty ourRates entries)
-unfolding volumeDuty
-duty-is string entries e = rw e
+  duty-is : (string : List ℕ) (entries : List Entry) → entriesIn string ≡ accepted entries → volumeDuty rates string ≡ accepted (entriesDuty rates entries)
+  unfolding volumeDuty
+  duty-is string entries e = rw e
 
-volume-owes : (string : List ℕ) (cents : ℕ) → AllBytes string
-    → (volumeDuty string ≡ accepted cents) ↔ ((entries : List Entry) × Volume string entries × (entriesDuty ourRates entries ≡ cents))
-volume-owes string cents bytes = (
-  (λ e. let s = duty-shows string cents e in (s .0, shift-volume .read-iff string (s .0) bytes .0 (s .1), s .2)),
-  (λ t. duty-is string (t .0) (shift-volume .read-iff string (t .0) bytes .1 (t .1)) ∙ ap accepted (t .2)),
-)
+  volume-owes : (string : List ℕ) (cents : ℕ) → AllBytes string
+      → (volumeDuty rates string ≡ accepted cents) ↔ ((entries : List Entry) × Volume string entries × (entriesDuty rates entries ≡ cents))
+  volume-owes string cents bytes = (
+    (λ e. let s = duty-shows string cents e in (s .0, shift-volume .read-iff string (s .0) bytes .0 (s .1), s .2)),
+    (λ t. duty-is string (t .0) (shift-volume .read-iff string (t .0) bytes .1 (t .1)) ∙ ap accepted (t .2)),
+  )
 
 -- ── the example ──
 
@@ -67,66 +79,69 @@ example : (minutes : ℕ) → entryDuty ourRates (record { minutes = minutes; li
 unfolding entryDuty
 example minutes = refl
 
-example-volume : volumeDuty (1 ∷ 0 ∷ 232 ∷ 7 ∷ 141 ∷ 4 ∷ 4 ∷ []) ≡ accepted 3150
+example-volume : volumeDuty ourRates (0x01 ∷ 0x00 ∷ 0xE8 ∷ 0x07 ∷ 0x8D ∷ 0x04 ∷ 0x04 ∷ []) ≡ accepted 3150
 unfolding volumeDuty entriesIn readEntries readEntry readValue readGroups entriesDuty entryDuty
 example-volume = refl
 
 -- ── refusals ──
 
-as-entries : (string : List ℕ) (n : ℕ) → (volumeDuty string ≡ refused n) ↔ (entriesIn string ≡ refused n)
-unfolding volumeDuty
-as-entries string n = refused-iff (entriesDuty ourRates) (entriesIn string) n
+module _ (rates string : List ℕ) where
+  as-entries : (n : ℕ) → (volumeDuty rates string ≡ refused n) ↔ (entriesIn string ≡ refused n)
+  unfolding volumeDuty
+  as-entries n = refused-iff (entriesDuty rates) (entriesIn string) n
 
-as-reading : (string list : List ℕ) (n : ℕ) → (n ≡ 8 → ⊥) → (volumeDuty string ≡ refused n) ↔ (readVolume string list ≡ refused n)
-as-reading string list n h = (
-  (λ e. shift-volume .read-refused string list n h .1 (as-entries string n .0 e)),
-  (λ e. as-entries string n .1 (shift-volume .read-refused string list n h .0 e)),
-)
+  as-reading : (list : List ℕ) (n : ℕ) → (n ≡ 8 → ⊥) → (volumeDuty rates string ≡ refused n) ↔ (readVolume string list ≡ refused n)
+  as-reading list n h = (
+    (λ e. shift-volume .read-refused string list n h .1 (as-entries n .0 e)),
+    (λ e. as-entries n .1 (shift-volume .read-refused string list n h .0 e)),
+  )
 
-never-8 : (string : List ℕ) → volumeDuty string ≡ refused 8 → ⊥
-never-8 string e =
-    within-not 8 (16 ∷ 14 ∷ 15 ∷ []) (entriesIn string) (volume-within first (after first) (after (after first)) string) refl (as-entries string 8 .0 e)
+  never-8 : volumeDuty rates string ≡ refused 8 → ⊥
+  never-8 e =
+      within-not 8 (16 ∷ 14 ∷ 15 ∷ []) (entriesIn string) (volume-within first (after first) (after (after first)) string) refl (as-entries 8 .0 e)
 
-accepted-where-8 : (string list : List ℕ) → readVolume string list ≡ refused 8 → (cents : ℕ) × (volumeDuty string ≡ accepted cents)
-accepted-where-8 string list e =
-    let t = shift-volume .read-8 string list .0 e in (entriesDuty ourRates (t .0), duty-is string (t .0) (t .1))
+  accepted-where-8 : (list : List ℕ) → readVolume string list ≡ refused 8 → (cents : ℕ) × (volumeDuty rates string ≡ accepted cents)
+  accepted-where-8 list e =
+      let t = shift-volume .read-8 string list .0 e in (entriesDuty rates (t .0), duty-is rates string (t .0) (t .1))
 
 -- ── the greatest duty ──
 
-at-most : (string : List ℕ) (cents : ℕ) → volumeDuty string ≡ accepted cents → cents ≤ mostDuty
+at-most : (string : List ℕ) (cents : ℕ) → volumeDuty ourRates string ≡ accepted cents → cents ≤ mostDuty
 at-most string cents e =
-    let s = duty-shows string cents e in
+    let s = duty-shows ourRates string cents e in
     let r = volume-in-range string (s .0) (s .1) in
     let most = entries-most 120 ourRates our-rates-most (s .0) (r .in-range) in
     let count : length (s .0) * 12000000 ≤ 2000 * 12000000 = mul-le-mul-right 12000000 (range-most countRange (length (s .0)) (r .count-in)) in
     omega (arith, most, count, s .2)
 
-greatest : Entry
+-- an entry that owes most
+abbrev greatest : Entry
 greatest = record { minutes = 0; litres = 100000; ratio = 10000; product = 1 }
 
 all-in-range : (n : ℕ) → entriesInRange (replicate n greatest) ≡ true
-unfolding entriesInRange entryInRange greatest
+unfolding entriesInRange entryInRange
 all-in-range zero = refl
 all-in-range (suc n) = all-in-range n
 
 all-owe : (n : ℕ) → entriesDuty ourRates (replicate n greatest) ≡ n * 12000000
-unfolding entriesDuty entryDuty greatest
+unfolding entriesDuty entryDuty
 all-owe zero = refl
 all-owe (suc n) = omega (arith, all-owe n)
 
-reached : (string : List ℕ) × (volumeDuty string ≡ accepted mostDuty)
+reached : volumeDuty ourRates (volumeString (replicate 2000 greatest)) ≡ accepted mostDuty
 reached =
     let entries = replicate 2000 greatest in
-    let count = length-replicate 2000 greatest in (
-      volumeString entries,
-      duty-is (volumeString entries) entries (volume-back entries (range-holds 0 2000 (length entries) (omega arith) (omega (arith, count))) (all-in-range 2000))
-          ∙ ap accepted (all-owe 2000),
-    )
+    let count = length-replicate 2000 greatest in
+    duty-is ourRates (volumeString entries) entries
+    (volume-back entries (range-holds 0 2000 (length entries) (omega arith) (omega (arith, count))) (all-in-range 2000))
+    ∙ ap accepted (all-owe 2000)
 
 pub component-duty : ComponentDuty
 component-duty = record {
   rates-are = refl;
   entry-owes = entry-owes;
+  one-entry = one-entry;
+  sums = sums;
   volume-owes = volume-owes;
   example = example;
   example-volume = example-volume;

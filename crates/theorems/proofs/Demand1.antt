@@ -97,7 +97,7 @@ demand1 = record {
       answers _ (readVolume string list)
       (then-line (entriesIn string) _ (volume-within first (after first) (after (after first)) string) λ entries.
       line-unless 8 (leb (4 * length entries) (length list)) _ (after (after (after (after first)))) by-none);
-  of-volume-duty = λ string.
-      answers _ (volumeDuty string)
+  of-volume-duty = λ rates string.
+      answers _ (volumeDuty rates string)
       (then-line (entriesIn string) _ (volume-within first (after first) (after (after first)) string) λ entries. by-none);
 }

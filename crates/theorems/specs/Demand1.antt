@@ -68,4 +68,5 @@ pub record Demand1 : Type 0 where
   pub of-read-volume :
       (string list : List ℕ)
       → AcceptedOrRefused (16 ∷ 14 ∷ 15 ∷ 16 ∷ 8 ∷ []) (record { count = 0; list = list }) (readVolume string list) (readVolumeCall string list)
-  pub of-volume-duty : (string : List ℕ) → AcceptedOrRefused (16 ∷ 14 ∷ 15 ∷ 16 ∷ []) 0 (volumeDuty string) (volumeDutyCall string)
+  pub of-volume-duty :
+      (rates string : List ℕ) → AcceptedOrRefused (16 ∷ 14 ∷ 15 ∷ 16 ∷ []) 0 (volumeDuty rates string) (volumeDutyCall rates string)

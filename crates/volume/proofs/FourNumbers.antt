@@ -15,7 +15,7 @@ use Rattle.volume.specs.Found.{entryIs, noEntry, NumberReadAgain, EntryR
 
 -- what `check_entry` ensures of its answer
 abbrev pub Found : (string rest : List ℕ) → EntryChecked → Type 0
-Found string rest r = (entryIs string r ≡ readEntry rest) × (r .next ≤ length string)
+Found string rest r = (entryIs string r ≡ readEntry rest) × (r .next ≤ length string) × ((r .refusal ≡ 0 → ⊥) → r ≡ noEntry (r .refusal))
 
 -- the entry of four numbers that were read
 abbrev pub entryOf : (minutes litres ratio product : ValueRead) → EntryRead
@@ -28,7 +28,7 @@ entryOf minutes litres ratio product =
 -- the first of the four that is refused, or all of them
 module _ (string rest : List ℕ) where
   refuses : {m : ℕ} (r : EntryChecked) → (m ≡ 0 → ⊥) → r ≡ noEntry m → readEntry rest ≡ refused m → Found string rest r
-  refuses {m} r h e q = rw e (rw (ne-eqb m 0 h, q), omega arith)
+  refuses {m} r h e q = rw e (rw (ne-eqb m 0 h, q), omega arith, λ _. refl)
 
   pub no-minutes : {m : ℕ} (r : EntryChecked) → (m ≡ 0 → ⊥) → r ≡ noEntry m → readValue minutesRange rest ≡ refused m → Found string rest r
   unfolding readEntry
@@ -61,7 +61,7 @@ module _ (string rest : List ℕ) where
               next = next;
             })
         unfolding readEntry
-        all-four product next h q = (rw (is-minutes, is-litres, is-ratio, q), h)
+        all-four product next h q = (rw (is-minutes, is-litres, is-ratio, q), h, λ n. absurd (n refl))
 
 -- ---- an entry that is accepted
 

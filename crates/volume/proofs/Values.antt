@@ -20,7 +20,7 @@ use Rattle.volume.specs.declared.reading.ValueFound.{ValueFound}
 use Rattle.volume.specs.declared.reading.NumberFound.{NumberFound}
 use Rattle.volume.specs.Volume.{Range, _to_, inRange, mostGroups}
 use Rattle.volume.specs.Calls.{ValueRead, numberRead, readValue}
-use Rattle.volume.specs.Found.{valueIs, ranged, NumberReadAgain}
+use Rattle.volume.specs.Found.{valueIs, noValue, ranged, NumberReadAgain}
 
 -- a value that is read is in its range
 pub ranged-value : (b : Bool) (read v : ValueRead) → ((refuse 15 unless b) >> accepted read) ≡ accepted v → (b ≡ true) × (read ≡ v)
@@ -58,26 +58,28 @@ module _ (string : List ℕ) (at : ℕ) (range : Range) where
   -- the answer for what `read_number` reads
   abbrev pub found : Read → ValueFound
   found (read.Number value next) = ranged value next range
-  found read.Ended = record { refusal = 16; value = 0; next = 0 }
-  found read.Malformed = record { refusal = 14; value = 0; next = 0 }
+  found read.Ended = noValue 16
+  found read.Malformed = noValue 14
 
   abbrev Found : ValueFound → Type 0
-  Found r = (valueIs string r ≡ readValue range (drop at string)) × (r .next ≤ length string)
+  Found r =
+      (valueIs string r ≡ readValue range (drop at string)) × (r .next ≤ length string) × ((r .refusal ≡ 0 → ⊥) → r ≡ noValue (r .refusal))
 
   -- whether a value is in its range
   ranged-is : (value next : ℕ) (b : Bool) → next ≤ length string →
-      let r : ValueFound = cond b (record { refusal = 0; value = value; next = next }) (record { refusal = 15; value = 0; next = 0 }) in
-      (valueIs string r ≡ ((refuse 15 unless b) >> accepted (record { value = value; rest = drop next string }))) × (r .next ≤ length string)
-  ranged-is value next true h = (refl, h)
-  ranged-is value next false h = (refl, omega arith)
+      let r : ValueFound = cond b (record { refusal = 0; value = value; next = next }) (noValue 15) in
+      (valueIs string r ≡ ((refuse 15 unless b) >> accepted (record { value = value; rest = drop next string })))
+      × (r .next ≤ length string) × ((r .refusal ≡ 0 → ⊥) → r ≡ noValue (r .refusal))
+  ranged-is value next true h = (refl, h, λ n. absurd (n refl))
+  ranged-is value next false h = (refl, omega arith, λ _. refl)
 
   found-is : (f : Read) → readingOf string f ≡ readNumber mostGroups (drop at string) → nextWithin at (length string) f → Found (found f)
   unfolding readValue ranged
   found-is (read.Number value next) e w =
       let h = ranged-is value next (inRange range value) (w .1) in
-      (h .0 ∙ rw (sym e), h .1)
-  found-is read.Ended e w = (rw (sym e), omega arith)
-  found-is read.Malformed e w = (rw (sym e), omega arith)
+      (h .0 ∙ rw (sym e), h .1, h .2)
+  found-is read.Ended e w = (rw (sym e), omega arith, λ _. refl)
+  found-is read.Malformed e w = (rw (sym e), omega arith, λ _. refl)
 
   pub value-found : (r : ValueFound) (f g : Read) → r ≡ found f → g ≡ f
       → (readingOf string g ≡ readNumber mostGroups (drop at string)) × nextWithin at (length string) g → Found r

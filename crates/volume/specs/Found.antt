@@ -19,11 +19,15 @@ use Rattle.volume.specs.Calls.{ValueRead, EntryRead, EntriesRead, readVa
 abbrev pub valueIs : List ℕ → ValueFound → Result ValueRead
 valueIs string r = resultOf (r .refusal) (record { value = r .value; rest = drop (r .next) string })
 
+-- what stands beside the refusal of a value
+abbrev pub noValue : (refusal : ℕ) → ValueFound
+noValue refusal = record { refusal = refusal; value = 0; next = 0 }
+
 -- an entry that was found in a string, or the refusal; the place after it stands for the bytes from there on
 abbrev pub entryIs : List ℕ → EntryChecked → Result EntryRead
 entryIs string r = resultOf (r .refusal) (record { entry = r .entry; rest = drop (r .next) string })
 
--- the refusal of an entry
+-- what stands beside the refusal of an entry
 abbrev pub noEntry : (refusal : ℕ) → EntryChecked
 noEntry refusal = record { refusal = refusal; entry = record { minutes = 0; litres = 0; ratio = 0; product = 0 }; next = 0 }
 
@@ -40,14 +44,14 @@ EntryReadAgain string at r =
 -- a number that was read, where it is in its range
 unfoldable pub ranged : (value next : ℕ) → Range → ValueFound
 ranged value next range =
-    cond (inRange range value) (record { refusal = 0; value = value; next = next }) (record { refusal = 15; value = 0; next = 0 })
+    cond (inRange range value) (record { refusal = 0; value = value; next = next }) (noValue 15)
 
--- a value of n entries with nothing after them, or the refusal
-unfoldable pub entriesOnly : {A : Type 0} → (value : List Entry → A) (n : ℕ) (string : List ℕ) → Result A
-entriesOnly value n string = do
+-- what a function gives for n entries with nothing after them, or the refusal
+unfoldable pub entriesOnly : {A : Type 0} → (f : List Entry → A) (n : ℕ) (string : List ℕ) → Result A
+entriesOnly f n string = do
   read ← readEntries n string
   refuse 16 unless isEmpty (read .rest)
-  accepted (value (read .entries))
+  accepted (f (read .entries))
 
 -- how many entries a volume has, or its refusal
 unfoldable pub countIn : (string : List ℕ) → Result ℕ

@@ -23,7 +23,7 @@ pub struct ValueFound {
     pub next: usize,
 }
 
-// An entry that was found, with refusal 0, and the place after it; or the refusal number, with 0 for both.
+// An entry that was checked, with refusal 0, and the place after it; or the refusal number, with 0 for its numbers and the place.
 pub struct EntryChecked {
     pub refusal: u64,
     pub entry: Entry,
@@ -50,7 +50,7 @@ pub struct EntryFound {
 }
 
 fn no_value(refusal: u64) -> ValueFound
-    ensures { λ r. ⌜ r ≡ record { refusal = refusal; value = 0; next = 0 } ⌝ }
+    ensures { λ r. ⌜ r ≡ Found.noValue refusal ⌝ }
 {
     ValueFound {
         refusal: refusal,
@@ -81,7 +81,7 @@ pub fn read_value(string: &[u8], at: usize, least: u32, most: u32) -> ValueFound
     requires { ⌜ at ≤ length (now string) ⌝ }
     ensures { λ r. ⌜
         (Found.valueIs (now (string .entry)) r ≡ Calls.readValue (Volume._to_ least most) (drop at (now (string .entry))))
-        × (r .next ≤ length (now (string .entry))) ⌝ }
+        × (r .next ≤ length (now (string .entry))) × ((r .refusal ≡ 0 → ⊥) → r ≡ Found.noValue (r .refusal)) ⌝ }
 {
     let read = varint::read_number(string, at, 3);
     match read {
@@ -110,7 +110,8 @@ fn no_entry(refusal: u64) -> EntryChecked
 pub fn check_entry(string: &[u8], at: usize) -> EntryChecked
     requires { ⌜ at ≤ length (now string) ⌝ }
     ensures { λ r. ⌜
-        (Found.entryIs (now (string .entry)) r ≡ Calls.readEntry (drop at (now (string .entry)))) × (r .next ≤ length (now (string .entry))) ⌝ }
+        (Found.entryIs (now (string .entry)) r ≡ Calls.readEntry (drop at (now (string .entry))))
+        × (r .next ≤ length (now (string .entry))) × ((r .refusal ≡ 0 → ⊥) → r ≡ Found.noEntry (r .refusal)) ⌝ }
 {
     let minutes = read_value(string, at, 0, MOST_MINUTES);
     let minutes_refusal = minutes.refusal;

@@ -235,8 +235,8 @@ no entry, nine bytes lent: 00: 9 gets 0
     );
 }
 
-// The document's example; each product's rate; amounts on both sides of a whole cent, alone and several of them; no duty at all; and refusals after an
-// entry that owes some.
+// The document's example; each product's rate; amounts on both sides of a whole cent, alone and several of them; no duty at all; refusals after an
+// entry that owes some; and products out of range.
 fn duty() {
     table::each(
         DUTY,

@@ -40,16 +40,16 @@ pub fn most() {
     let two = [0, 0, 0, 1, 0, 0, 0, 1];
     let large = [1440, 100_000, 10_000, 8];
     let one = [0xa0, 0x0b, 0xa0, 0x8d, 0x06, 0x90, 0x4e, 0x08];
-    let dear = [1440, 100_000, 10_000, 1];
-    let its = [0xa0, 0x0b, 0xa0, 0x8d, 0x06, 0x90, 0x4e, 0x01];
+    let large_of_1 = [1440, 100_000, 10_000, 1];
+    let one_of_1 = [0xa0, 0x0b, 0xa0, 0x8d, 0x06, 0x90, 0x4e, 0x01];
     alike(b"2000 smallest:", &mut list, small, &mut short, two, 0);
     alike(b"2000 largest:", &mut other, large, &mut long, one, 0);
     alike(
         b"2000 largest of product 1:",
         &mut third,
-        dear,
+        large_of_1,
         &mut same_length,
-        its,
+        one_of_1,
         24_000_000_000,
     );
 }

@@ -1,6 +1,7 @@
 // Tables of cases, in text. A line is a case: its name up to `:`, the bytes of a volume in hexadecimal, each after a space, up to `:`, and numbers in
 // other text. For reading and writing these are the size of what is lent, the refusal number, which is 0 where the case is accepted, and the numbers
-// of entries. A refused case has no entries to read, or no bytes to write. For the duty they are the refusal number and the cents.
+// of entries. A refused case has no entries to read, or no bytes to write. For the duty they are the refusal number and the cents. A number
+// is below 2^32.
 ghost use Prim.Native.Nat.{_≤_};
 ghost use lib.ListN.{length};
 use crate::duties::owes;
@@ -159,7 +160,7 @@ fn run(call: u32, case: &[u8], string: &[u8], numbers: &[u32]) {
     let refusal = wide(numbers[1]);
     let list = &numbers[2..];
     if call == DUTY {
-        owes(case, string, wide(numbers[0]), refusal);
+        owes(case, string, wide(numbers[0]), wide(numbers[1]));
     } else if call == READ {
         reads(case, string, size, refusal, list);
         refuses_as_reading(case, string, refusal);
