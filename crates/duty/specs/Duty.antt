@@ -12,15 +12,15 @@ ourRates = 120 ∷ 95 ∷ 95 ∷ 60 ∷ 40 ∷ 40 ∷ 15 ∷ 0 ∷ []
 abbrev pub rateOf : (rates : List ℕ) (product : ℕ) → ℕ
 rateOf rates product = getD (0 ∷ rates) product 0
 
--- 'For an entry it is litres times ratio times rate, (in ten-thousandths of a cent)
+-- 'For an entry it is litres times ratio times rate, ..': the duty in ten-thousandths of a cent
 abbrev pub exactDuty : (rates : List ℕ) → Entry → ℕ
 exactDuty rates e = e .litres * e .ratio * rateOf rates (e .product)
 
--- divided by 10,000 and cut down to whole cents;
+-- '.. divided by 10,000 and cut down to whole cents; ..'
 unfoldable pub entryDuty : (rates : List ℕ) → Entry → ℕ
 entryDuty rates e = exactDuty rates e / 10000
 
--- for the volume it is the sum over entries.'
+-- '.. for the volume it is the sum over entries.'
 unfoldable pub entriesDuty : (rates : List ℕ) → List Entry → ℕ
 entriesDuty rates [] = 0
 entriesDuty rates (e ∷ entries) = entryDuty rates e + entriesDuty rates entries

@@ -1,5 +1,5 @@
-// The duty's part of the box's interface, for C. It is compiled apart from the other calls, since the compiler copies the check of an entry into a loop
-// only where nothing else calls it.
+// The duty's part of the box's interface, for C. It is compiled apart from the calls that read a volume: in one module, where the check of an entry has
+// two callers, both are slower.
 ghost use mathlib.Core.Path.{_≡_};
 ghost use Rattle.duty.specs.Duty as Duty;
 ghost use Rattle.duty.specs.Calls as Calls;
