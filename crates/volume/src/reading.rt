@@ -91,6 +91,18 @@ pub fn read_value(string: &[u8], at: usize, least: u32, most: u32) -> ValueFound
     }
 }
 
+// The entry of four numbers.
+fn entry_of(minutes: u32, litres: u32, ratio: u32, product: u32) -> Entry
+    ensures { λ r. ⌜ r ≡ record { minutes = minutes; litres = litres; ratio = ratio; product = product } ⌝ }
+{
+    Entry {
+        minutes: minutes,
+        litres: litres,
+        ratio: ratio,
+        product: product,
+    }
+}
+
 fn no_entry(refusal: u64) -> EntryChecked
     ensures { λ r. ⌜ r ≡ Found.noEntry refusal ⌝ }
 {
@@ -135,12 +147,7 @@ pub fn check_entry(string: &[u8], at: usize) -> EntryChecked
     }
     EntryChecked {
         refusal: 0,
-        entry: Entry {
-            minutes: minutes.value,
-            litres: litres.value,
-            ratio: ratio.value,
-            product: product.value,
-        },
+        entry: entry_of(minutes.value, litres.value, ratio.value, product.value),
         next: product.next,
     }
 }
@@ -199,12 +206,6 @@ pub fn count_entries(string: &[u8]) -> CountFound
     }
 }
 
-fn no_number() -> NumberFound
-    ensures { λ r. ⌜ r ≡ record { value = 0; next = 0 } ⌝ }
-{
-    NumberFound { value: 0, next: 0 }
-}
-
 // The number from place `at` on, of a volume that has been checked.
 fn number_at(string: &[u8], at: usize) -> NumberFound
     requires { ⌜ at ≤ length (now string) ⌝ }
@@ -216,8 +217,8 @@ fn number_at(string: &[u8], at: usize) -> NumberFound
             value: value as u32,
             next: next,
         },
-        Read::Ended => no_number(),
-        Read::Malformed => no_number(),
+        Read::Ended => NumberFound { value: 0, next: 0 },
+        Read::Malformed => NumberFound { value: 0, next: 0 },
     }
 }
 
@@ -231,12 +232,7 @@ fn read_entry(string: &[u8], at: usize) -> EntryFound
     let ratio = number_at(string, litres.next);
     let product = number_at(string, ratio.next);
     EntryFound {
-        entry: Entry {
-            minutes: minutes.value,
-            litres: litres.value,
-            ratio: ratio.value,
-            product: product.value,
-        },
+        entry: entry_of(minutes.value, litres.value, ratio.value, product.value),
         next: product.next,
     }
 }

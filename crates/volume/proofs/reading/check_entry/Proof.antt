@@ -43,16 +43,17 @@ returns-4 c =
 
 returns-5 : tie.Need-returns-5
 returns-5 c =
-    let a = c .before .before .before .before .before .before .before .before .before .args in
-    all-four (now (a .string)) (drop (a .at) (now (a .string)))
-    _ (is-accepted _ _ _ (c .before .before .before .before .before .before .before .read-value .ensures .0) (c .before .before .before .before .before .before .if1 .left))
-    _ (is-accepted _ _ _ (c .before .before .before .before .before .read-value2 .ensures .0) (c .before .before .before .before .if2 .left))
-    _ (is-accepted _ _ _ (c .before .before .before .read-value3 .ensures .0) (c .before .before .if3 .left))
-    _ _ (c .before .read-value4 .ensures .1) (is-accepted _ _ _ (c .before .read-value4 .ensures .0) (c .if4 .left))
+    let a = c .before .before .before .before .before .before .before .before .before .before .args in
+    rw (c .entry-of .ensures)
+    (all-four (now (a .string)) (drop (a .at) (now (a .string)))
+    _ (is-accepted _ _ _ (c .before .before .before .before .before .before .before .before .read-value .ensures .0) (c .before .before .before .before .before .before .before .if1 .left))
+    _ (is-accepted _ _ _ (c .before .before .before .before .before .before .read-value2 .ensures .0) (c .before .before .before .before .before .if2 .left))
+    _ (is-accepted _ _ _ (c .before .before .before .before .read-value3 .ensures .0) (c .before .before .before .if3 .left))
+    _ _ (c .before .before .read-value4 .ensures .1) (is-accepted _ _ _ (c .before .before .read-value4 .ensures .0) (c .before .if4 .left)))
 
 pub check-entry-spec : {M : Type 1} → statement M
 check-entry-spec =
     let a₁ = tie.spec (λ c κs. search needs) (λ c κs. search needs) returns in
     let a₂ = a₁ (λ c κs. search needs) (λ c κs. search needs) returns-2 in
     let a₃ = a₂ (λ c κs. search needs) (λ c κs. search needs) returns-3 in
-    tie.close (a₃ (λ c κs. search needs) (λ c κs. search needs) returns-4 returns-5)
+    tie.close (a₃ (λ c κs. search needs) (λ c κs. search needs) returns-4 (λ c κs. search needs) returns-5)

@@ -21,15 +21,14 @@ returns c =
 
 returns-2 : tie.Need-returns-2
 returns-2 c =
-    let a = c .before .before .before .before .before .args in
-    number-again (now (a .string)) (a .at) _ _ _ (c .no-number .ensures) (c .before .enum-told .given .1) (c .before .before .before .read-number .ensures)
+    let a = c .before .before .before .before .args in
+    number-again (now (a .string)) (a .at) _ _ _ refl (c .enum-told .given .1) (c .before .before .read-number .ensures)
 
 returns-3 : tie.Need-returns-3
 returns-3 c =
-    let a = c .before .before .before .before .before .args in
-    number-again (now (a .string)) (a .at) _ _ _ (c .no-number2 .ensures) (c .before .enum-told2 .given .1) (c .before .before .before .read-number .ensures)
+    let a = c .before .before .before .before .args in
+    number-again (now (a .string)) (a .at) _ _ _ refl (c .enum-told2 .given .1) (c .before .before .read-number .ensures)
 
 pub number-at-spec : {M : Type 1} → statement M
 number-at-spec =
-    let a₁ = tie.spec (λ c κs. search needs) (λ c. search needs) fits (λ c. search needs) (λ c κs. search needs) in
-    tie.close (a₁ (λ c. search needs) (λ c κs. search needs) returns returns-2 returns-3)
+    tie.close (tie.spec (λ c κs. search needs) (λ c. search needs) fits (λ c. search needs) (λ c. search needs) returns returns-2 returns-3)
