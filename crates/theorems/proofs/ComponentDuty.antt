@@ -62,7 +62,7 @@ module _ (rates : List ℕ) where
   unfolding volumeDuty
   duty-shows string cents e = owes (entriesIn string) cents e
 
-  duty-is : (string : List ℕ) (entries : List Entry) → entriesIn string ≡ accepted entries → volumeDuty rates string ≡ accepted (entriesDuty rates entries)
+  pub duty-is : (string : List ℕ) (entries : List Entry) → entriesIn string ≡ accepted entries → volumeDuty rates string ≡ accepted (entriesDuty rates entries)
   unfolding volumeDuty
   duty-is string entries e = rw e
 
@@ -139,6 +139,7 @@ reached =
 pub component-duty : ComponentDuty
 component-duty = record {
   rates-are = refl;
+  rate-of = λ a b c d e f g h. refl;
   entry-owes = entry-owes;
   one-entry = one-entry;
   sums = sums;

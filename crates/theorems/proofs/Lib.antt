@@ -19,6 +19,7 @@ pub mod HeadWord
 pub mod HeadMark
 pub mod ShiftVolume
 pub mod ComponentDuty
+pub mod ReadingEffect
 pub mod Demand3
 pub mod CheckpointLength
 pub mod Refusal12

@@ -14,3 +14,4 @@ pub mod HeadWord
 pub mod HeadMark
 pub mod ShiftVolume
 pub mod ComponentDuty
+pub mod ReadingEffect

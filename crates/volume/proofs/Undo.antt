@@ -9,8 +9,10 @@ use lib.Seq.{take-at}
 use Rattle.laws.specs.Lent.{putFirst}
 use Rattle.laws.specs.Result.{accepted, _>>=_, _>>_, refuse_unless_}
 use Rattle.laws.proofs.Results.{after-line, no-refusal, accepted-one}
+use Rattle.laws.proofs.Lists.{append-below}
 use Rattle.laws.proofs.Same.{and-left, and-right}
 use Rattle.varint.specs.Number.{number, Reading, is, ended, malformed, readNumber}
+use Rattle.varint.proofs.Groups.{number-bytes}
 use Rattle.varint.proofs.Reading.{read-written, written-read}
 use Rattle.volume.specs.declared.Entry.{Entry}
 use Rattle.volume.specs.Volume.{Range, inRange, countRange, minutesRange, litresRange, ratioRange, productRange, mostGroups, entryInRange, entriesInRange, entryString, entriesString, volumeString, numbersOf, entriesOf}
@@ -81,6 +83,27 @@ unfolding entriesIn volumeString
 volume-back entries c h =
     let s = rw append-nil at (entries-back entries [] h) in
     rw (value-back countRange (omega arith) (length entries) (entriesString entries) c, s)
+
+-- ---- what is written is bytes
+
+entry-bytes : (e : Entry) (i : ℕ) → getD (entryString e) i 0 < 256
+unfolding entryString
+entry-bytes e =
+    let m = number (e .minutes) in
+    let l = number (e .litres) in
+    let r = number (e .ratio) in
+    append-below (m ++ l ++ r) (number (e .product))
+    (append-below (m ++ l) r (append-below m l (number-bytes (e .minutes)) (number-bytes (e .litres))) (number-bytes (e .ratio)))
+    (number-bytes (e .product))
+
+entries-bytes : (entries : List Entry) (i : ℕ) → getD (entriesString entries) i 0 < 256
+unfolding entriesString
+entries-bytes [] = λ i. omega arith
+entries-bytes (e ∷ entries) = append-below (entryString e) (entriesString entries) (entry-bytes e) (entries-bytes entries)
+
+pub volume-bytes : (entries : List Entry) (i : ℕ) → getD (volumeString entries) i 0 < 256
+unfolding volumeString
+volume-bytes entries = append-below (number (length entries)) (entriesString entries) (number-bytes (length entries)) (entries-bytes entries)
 
 -- ---- what is read is what would have been written
 

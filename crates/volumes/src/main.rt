@@ -1,4 +1,5 @@
-// The cases of document 02 (d), the shift volume, and (e), the duty on it: reading, writing, enciphering and the duty, a line each, `ok` or `wrong`.
+// The cases of document 02 (d), the shift volume, (e), the duty on it, and (f), the effect of one ratio on the duty: reading, writing, enciphering and
+// the duty, a line each, `ok` or `wrong`.
 use table::DUTY;
 use table::READ;
 use table::WRITE;
@@ -235,8 +236,8 @@ no entry, nine bytes lent: 00: 9 gets 0
     );
 }
 
-// The document's example; each product's rate; amounts on both sides of a whole cent, alone and several of them; no duty at all; refusals after an
-// entry that owes some; and products out of range.
+// The document's example; each product's rate; amounts on both sides of a whole cent, alone and several of them; no duty at all; volumes that differ
+// in one ratio; refusals after an entry that owes some; and products out of range.
 fn duty() {
     table::each(
         DUTY,
@@ -268,6 +269,13 @@ three times 9990: 03 00 01 9a 05 07 00 01 9a 05 07 00 01 9a 05 07: gets 0 owes 0
 9960 and 10080: 02 00 01 53 01 00 01 54 01: gets 0 owes 1
 10080 and 9960: 02 00 01 54 01 00 01 53 01: gets 0 owes 1
 twice 10080: 02 00 01 54 01 00 01 54 01: gets 0 owes 2
+1000 litres at 526 of product 4, 6 cents more than at 525: 01 00 e8 07 8e 04 04: gets 0 owes 3156
+1000 litres at 524 of product 4, 6 cents less than at 525: 01 00 e8 07 8c 04 04: gets 0 owes 3144
+1000 litres at 127 of product 4, the last ratio of one group: 01 00 e8 07 7f 04: gets 0 owes 762
+1000 litres at 128 of product 4, 6 cents more than at 127: 01 00 e8 07 80 01 04: gets 0 owes 768
+1 litre at 666 of product 7 between two of 3150 cents: 03 00 e8 07 8d 04 04 00 01 9a 05 07 00 e8 07 8d 04 04: gets 0 owes 6300
+1 litre at 667 of product 7 between two of 3150 cents, 1 cent more: 03 00 e8 07 8d 04 04 00 01 9b 05 07 00 e8 07 8d 04 04: gets 0 owes 6301
+1 litre at 668 of product 7 between two of 3150 cents, none more than at 667: 03 00 e8 07 8d 04 04 00 01 9c 05 07 00 e8 07 8d 04 04: gets 0 owes 6301
 3150 cents, next minutes malformed: 02 00 e8 07 8d 04 04 80 00 00 00 01: gets 14 owes 0
 3150 cents, next litres 100001: 02 00 e8 07 8d 04 04 00 a1 8d 06 00 01: gets 15 owes 0
 3150 cents, next product 9: 02 00 e8 07 8d 04 04 00 00 00 09: gets 15 owes 0
