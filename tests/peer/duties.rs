@@ -7,10 +7,10 @@ use crate::tally::Tally;
 use crate::volumes::bytes_of;
 
 /// An entry: minutes, litres, ratio and product.
-type Entry = [u32; 4];
+pub type Entry = [u32; 4];
 
 /// The example of request (e) and its volume; it owes 3,150 cents.
-const EXAMPLE: Entry = [0, 1_000, 525, 4];
+pub const EXAMPLE: Entry = [0, 1_000, 525, 4];
 const EXAMPLE_VOLUME: [u8; 7] = [0x01, 0x00, 0xE8, 0x07, 0x8D, 0x04, 0x04];
 
 /// For products 1 to 8 the cents that are owed by 1 litre at 10,000, 100,000 litres at 10,000, 1 litre at 9,999 and 99,999 litres
@@ -111,7 +111,7 @@ const ENTRIES: [(u32, u32, u32, u64); 62] = [
 ];
 
 /// An entry of the greatest duty, 12,000,000 cents, with the most bytes, and its numbers as bytes.
-const GREATEST: Entry = [1_440, 100_000, 10_000, 1];
+pub const GREATEST: Entry = [1_440, 100_000, 10_000, 1];
 const GREATEST_NUMBERS: [&[u8]; 4] = [&[0xA0, 0x0B], &[0xA0, 0x8D, 0x06], &[0x90, 0x4E], &[0x01]];
 
 /// Bytes that are at fault in the place of minutes, litres, ratio and product, with the refusal that they get.
@@ -157,7 +157,7 @@ const FAULTS: [&[(&[u8], u64)]; 4] = [
 ];
 
 /// The volume of these entries.
-fn volume_of(entries: &[Entry]) -> Vec<u8> {
+pub fn volume_of(entries: &[Entry]) -> Vec<u8> {
     let mut volume = bytes_of(entries.len() as u32);
     volume.extend(entries.iter().flatten().flat_map(|number| bytes_of(*number)));
     volume

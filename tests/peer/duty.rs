@@ -1,4 +1,4 @@
-//! The component duty of request (e) of document 02 on a shift volume.
+//! The component duty of request (e) of document 02 on a shift volume, and the bound of request (f) on its change.
 
 use crate::volume::{self, Fault};
 
@@ -15,6 +15,16 @@ pub fn undivided(entry: &[u32]) -> u128 {
 pub fn of_entries(list: &[u32]) -> u64 {
     let cents: u128 = list.chunks(4).map(|entry| undivided(entry) / 10_000).sum();
     u64::try_from(cents).unwrap()
+}
+
+/// The litres of an entry times the rate of its product times the hundredths by which its ratio changes.
+pub fn undivided_change(entry: &[u32], hundredths: u32) -> u128 {
+    entry[1] as u128 * RATES[entry[3] as usize - 1] * hundredths as u128
+}
+
+/// The most by which the duty on a volume changes then, if nothing else changes: that over 10,000, rounded up.
+pub fn most_change(entry: &[u32], hundredths: u32) -> u128 {
+    undivided_change(entry, hundredths).div_ceil(10_000)
 }
 
 /// Volume duty, which returns the cents: the refusals of reading without 8, then the duty on the entries.

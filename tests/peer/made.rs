@@ -1,10 +1,11 @@
 //! Cases made by hand, with the answer that document 01, request (a) or (g) of document 02 or the C header gives for each. Those
-//! of request (b) are in marks.rs, those of request (d) in volumes.rs and those of request (e) in duties.rs.
+//! of request (b) are in marks.rs, those of (d) in volumes.rs, those of (e) in duties.rs and those of (f) in effects.rs.
 
 use crate::both::{Agreed, Both};
 use crate::calls::{self, Head, FRESH, LIMIT};
 use crate::ciphers::{self, Cipher};
 use crate::duties;
+use crate::effects;
 use crate::marks;
 use crate::random::Random;
 use crate::tally::Tally;
@@ -682,5 +683,6 @@ pub fn run(seed: u64, tally: &mut Tally) -> Result<(), String> {
     }
     words_not_twice(&mut random, tally)?;
     length_examples(&mut random, tally)?;
-    duties::run(tally)
+    duties::run(tally)?;
+    effects::run(tally)
 }

@@ -7,6 +7,7 @@ mod ciphers;
 mod count;
 mod duties;
 mod duty;
+mod effects;
 mod lent;
 mod lists;
 mod made;

@@ -237,10 +237,66 @@ fn read_and_write(random: &mut Random, both: &mut Both) -> Result<(), String> {
     Ok(())
 }
 
-/// One random volume each way; the result is the text of the first difference.
+/// Another ratio, mostly 1 to 5 hundredths away.
+fn other_ratio(random: &mut Random, ratio: u32) -> u32 {
+    loop {
+        let hundredths = random.between(1, 5) as u32;
+        let other = match random.below(3) {
+            0 => ratio + hundredths,
+            1 => ratio.wrapping_sub(hundredths),
+            _ => value(random, &ENTRY[2]),
+        };
+        if other != ratio && ENTRY[2].has(other) {
+            return other;
+        }
+    }
+}
+
+/// Takes the duty on a volume, and again after the ratio of one entry has changed. By request (f) the two differ by no more than
+/// the bound. They also differ by no less than the same amount cut down, so that an amount that is too large is noticed.
+fn change_ratio(random: &mut Random, both: &mut Both) -> Result<(), String> {
+    let mut list = any_entries(random);
+    if list.is_empty() {
+        return Ok(());
+    }
+    let last = list.len() / 4 - 1;
+    let place = random.between(0, last as u64) as usize;
+    let entry = list[4 * place..4 * place + 4].to_vec();
+    let (ratio, other) = (entry[2], other_ratio(random, entry[2]));
+    let case = format!("entry {place} of {}, {entry:?}, ratio changed to {other}", last + 1);
+
+    let refused = |refusal: u64| format!("{case}: refused with {refusal}");
+    let before = both.volume_duty(&volume::volume_of(&list))?.map_err(refused)?;
+    list[4 * place + 2] = other;
+    let after = both.volume_duty(&volume::volume_of(&list))?.map_err(refused)?;
+    let difference = before.abs_diff(after) as u128;
+    let amount = duty::undivided_change(&entry, ratio.abs_diff(other));
+    let bound = duty::most_change(&entry, ratio.abs_diff(other));
+    must(difference <= bound, &format!("{case}: {difference} cents are no more than {bound}"))?;
+    must(difference >= amount / 10_000, &format!("{case}: {difference} cents are no less than {amount} over 10,000, cut down"))?;
+
+    let mut special = |holds: bool, what: &str| {
+        if holds {
+            both.tally.special(&format!("changed ratio{what}"), None);
+        }
+    };
+    let is_whole = amount % 10_000 == 0;
+    special(!is_whole && difference == bound, ", difference is the bound rounded up");
+    special(difference + 1 == bound, ", difference one less than the bound");
+    special(is_whole && amount != 0, ", bound over 0 without rounding");
+    special(other > ratio, " rises");
+    special(other < ratio, " falls");
+    special(last != 0 && place == 0, " in the first of several entries");
+    special(last != 0 && place == last, " in the last of several entries");
+    special(0 < place && place < last, " in an entry between two others");
+    Ok(())
+}
+
+/// One random volume each way, and one with a changed ratio; the result is the text of the first difference.
 pub fn run(seed: u64, number: u64, tally: &mut Tally) -> Result<(), String> {
     let mut random = Random::new(seed, FIRST_STREAM + number);
     let mut both = Both::new(FRESH, random.words(16), tally);
     write_and_read(&mut random, &mut both)?;
-    read_and_write(&mut random, &mut both)
+    read_and_write(&mut random, &mut both)?;
+    change_ratio(&mut random, &mut both)
 }

@@ -185,7 +185,7 @@ const SPECIAL: [&str; 63] = [
 ];
 
 /// Calls of special interest that must occur where the code names no cipher or the call takes none.
-const SPECIAL_WITHOUT_CIPHER: [&str; 32] = [
+const SPECIAL_WITHOUT_CIPHER: [&str; 40] = [
     "14, 15 or 16 before 1 in encipher volume",
     "write volume of no entries",
     "write volume of 2,000 entries",
@@ -218,6 +218,14 @@ const SPECIAL_WITHOUT_CIPHER: [&str; 32] = [
     "16 after entries with duty in volume duty",
     "bytes after entries with duty in volume duty",
     "14 at the end of the string in volume duty",
+    "changed ratio, difference is the bound rounded up",
+    "changed ratio, difference one less than the bound",
+    "changed ratio, bound over 0 without rounding",
+    "changed ratio rises",
+    "changed ratio falls",
+    "changed ratio in the first of several entries",
+    "changed ratio in the last of several entries",
+    "changed ratio in an entry between two others",
 ];
 
 #[derive(Default)]
