@@ -82,8 +82,8 @@ extern "C" {
  * sum over its entries. The rates, in cents per litre:
  *     product   1    2   3   4   5   6   7   8
  *     rate      120  95  95  60  40  40  15  0
- * Where the ratio of one entry changes by d hundredths of a percent and nothing else changes, the duty of the volume changes by litres times rate
- * times d over 10,000, rounded up, at most, with the litres and the rate of that entry.
+ * Where the ratio of one entry changes by d hundredths of a percent and nothing else changes, the duty on the volume changes by at most litres times
+ * rate times d over 10,000, rounded up, with the litres of that entry and the rate of its product.
  * HC_MOST_DUTY is the greatest duty of any volume, in cents: 2,000 entries of 100,000 litres at 10,000 of product 1. It does not fit 32 bits. */
 #define HC_MOST_DUTY UINT64_C(24000000000)
 
