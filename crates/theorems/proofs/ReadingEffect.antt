@@ -14,12 +14,13 @@ use Rattle.varint.specs.Number.{readGroups, number, groups}
 use Rattle.volume.specs.declared.Entry.{Entry}
 use Rattle.volume.specs.Volume.{entryString, entriesString, volumeString}
 use Rattle.volume.specs.Calls.{readValue, readEntry, readEntries, entriesIn}
-use Rattle.volume.proofs.Undo.{volume-bytes}
+use Rattle.volume.proofs.Ranges.{volume-in-range}
+use Rattle.volume.proofs.Undo.{volume-back, volume-bytes}
 use Rattle.duty.specs.Duty.{ourRates, rateOf, entryDuty, entriesDuty}
 use Rattle.duty.specs.Calls.{volumeDuty}
-use Rattle.theorems.specs.ShiftVolume.{InRange, AllInRange, Volume}
+use Rattle.theorems.specs.ShiftVolume.{InRange, AllInRange}
 use Rattle.theorems.specs.ReadingEffect.{withRatio, distance, roundedUp, mostMoved, thousandLitres, oneLitre, ReadingEffect}
-use Rattle.theorems.proofs.ShiftVolume.{shift-volume}
+use Rattle.theorems.proofs.ShiftVolume.{entries-all, all-entries}
 use Rattle.theorems.proofs.ComponentDuty.{duty-is}
 
 -- ── an entry ──
@@ -119,20 +120,17 @@ set-in-range ratio e l (first ∷ entries) zero h r =
     (record { minutes = i .minutes; litres = i .litres; ratio = l; product = i .product }, r .1)
 set-in-range ratio e l (first ∷ entries) (suc k) h r = (r .0, set-in-range ratio e l entries k h (r .1))
 
-every-ratio : (string : List ℕ) (entries : List Entry) (k ratio : ℕ) → AllBytes string → entriesIn string ≡ accepted entries
-    → k < length entries → ratio ≤ 10000
+every-ratio : (string : List ℕ) (entries : List Entry) (k ratio : ℕ) → entriesIn string ≡ accepted entries → k < length entries → ratio ≤ 10000
     → (other : List ℕ) × (e : Entry) × AllBytes other × (getElem? entries k ≡ some e)
     × (entriesIn other ≡ accepted (set entries k (withRatio e ratio)))
-every-ratio string entries k ratio bytes s n l =
+every-ratio string entries k ratio s n l =
     let found = entry-at entries k n in
     let e = found .0 in
     let others = set entries k (withRatio e ratio) in
-    let v = shift-volume .read-iff string entries bytes .0 s in
-    let count : length others ≤ 2000 = omega (arith, length-set entries k (withRatio e ratio), v .count) in
-    let w : Volume (volumeString others) others =
-    record { count = count; in-range = set-in-range ratio e l entries k (found .1) (v .in-range); string-is = refl } in
-    let b : AllBytes (volumeString others) = volume-bytes others in
-    (volumeString others, e, b, found .1, shift-volume .read-iff (volumeString others) others b .1 w)
+    let v = volume-in-range string entries s in
+    let count = rw (← length-set entries k (withRatio e ratio)) at (v .count-in) in
+    let in-range = all-entries others (set-in-range ratio e l entries k (found .1) (entries-all entries (v .in-range))) in
+    (volumeString others, e, volume-bytes others, found .1, volume-back others count in-range)
 
 -- ── the examples ──
 

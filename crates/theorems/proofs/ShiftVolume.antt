@@ -53,13 +53,13 @@ in-entry e r =
       range-holds 1 8 (e .product) (r .product .0) (r .product .1),
     )
 
-entries-all : (entries : List Entry) → entriesInRange entries ≡ true → AllInRange entries
+pub entries-all : (entries : List Entry) → entriesInRange entries ≡ true → AllInRange entries
 unfolding entriesInRange
 entries-all [] h = tt
 entries-all (e ∷ entries) h =
     (entry-in e (and-left (entryInRange e) (entriesInRange entries) h), entries-all entries (and-right (entryInRange e) (entriesInRange entries) h))
 
-all-entries : (entries : List Entry) → AllInRange entries → entriesInRange entries ≡ true
+pub all-entries : (entries : List Entry) → AllInRange entries → entriesInRange entries ≡ true
 unfolding entriesInRange
 all-entries [] h = refl
 all-entries (e ∷ entries) h = rw (in-entry e (h .0), all-entries entries (h .1))

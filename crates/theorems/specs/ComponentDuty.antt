@@ -22,7 +22,7 @@ pub record ComponentDuty : Type 0 where
   -- 'Rates in cents per litre for products 1 to 8 are 120, 95, 95, 60, 40, 40, 15, 0.'
   pub rates-are :
       map (rateOf ourRates) (1 ∷ 2 ∷ 3 ∷ 4 ∷ 5 ∷ 6 ∷ 7 ∷ 8 ∷ []) ≡ 120 ∷ 95 ∷ 95 ∷ 60 ∷ 40 ∷ 40 ∷ 15 ∷ 0 ∷ []
-  -- In a table of eight rates the first is that of product 1, and the last that of product 8.
+  -- A table of eight rates has those of products 1 to 8, in this order.
   pub rate-of :
       (a b c d e f g h : ℕ)
       → map (rateOf (a ∷ b ∷ c ∷ d ∷ e ∷ f ∷ g ∷ h ∷ [])) (1 ∷ 2 ∷ 3 ∷ 4 ∷ 5 ∷ 6 ∷ 7 ∷ 8 ∷ []) ≡ a ∷ b ∷ c ∷ d ∷ e ∷ f ∷ g ∷ h ∷ []

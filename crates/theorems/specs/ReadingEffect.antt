@@ -61,8 +61,7 @@ pub record ReadingEffect : Type 0 where
   -- 'for every volume': for every volume, every entry of it and every ratio from 0 to 10,000 there is a volume whose entries are the same but for that
   -- ratio in that entry.
   pub every-ratio :
-      (string : List ℕ) (entries : List Entry) (k ratio : ℕ) → AllBytes string → entriesIn string ≡ accepted entries
-      → k < length entries → ratio ≤ 10000
+      (string : List ℕ) (entries : List Entry) (k ratio : ℕ) → entriesIn string ≡ accepted entries → k < length entries → ratio ≤ 10000
       → (other : List ℕ) × (e : Entry) × AllBytes other × (getElem? entries k ≡ some e)
       × (entriesIn other ≡ accepted (set entries k (withRatio e ratio)))
   -- No smaller bound would do, whatever rate, litres and d up to 10,000 are: an entry at 10,000 owes more than the same entry at 10,000 - d by just
