@@ -103,13 +103,19 @@ static int64_t read_volume(const uint8_t *volume, size_t volume_bytes, uint32_t 
 #define read_volume NULL
 #endif
 
-/* An earlier archive may have no duty. */
+/* An earlier archive may have no duty, or take it under our rates alone. */
 #ifdef HC_MOST_DUTY
 static int64_t duty(const uint8_t *volume, size_t volume_bytes, size_t times)
 {
     struct hc_duty owed = { 0, 0 };
+#ifdef HC_PRODUCTS
+    const struct hc_rates rates = hc_our_rates();
+    for (size_t i = 0; i < times; i++)
+        owed = hc_volume_duty(&rates, volume, volume_bytes);
+#else
     for (size_t i = 0; i < times; i++)
         owed = hc_volume_duty(volume, volume_bytes);
+#endif
     return owed.refusal == HC_OK ? (int64_t)owed.cents : -1;
 }
 #else

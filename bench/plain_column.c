@@ -77,9 +77,10 @@ static int64_t read_volume(const uint8_t *volume, size_t volume_bytes, uint32_t 
 
 static int64_t duty(const uint8_t *volume, size_t volume_bytes, size_t times)
 {
+    static const uint16_t rates[8] = { 120, 95, 95, 60, 40, 40, 15, 0 };
     struct plain_answer owed = { 0, 0 };
     for (size_t i = 0; i < times; i++)
-        owed = plain_duty(volume, volume_bytes);
+        owed = plain_duty(rates, volume, volume_bytes);
     return owed.refusal == 0 ? (int64_t)owed.value : -1;
 }
 

@@ -74,9 +74,8 @@ struct plain_answer plain_read_volume(const uint8_t *volume, size_t volume_bytes
     return accepted(count);
 }
 
-struct plain_answer plain_duty(const uint8_t *volume, size_t volume_bytes)
+struct plain_answer plain_duty(const uint16_t *rates, const uint8_t *volume, size_t volume_bytes)
 {
-    static const uint64_t rates[8] = { 120, 95, 95, 60, 40, 40, 15, 0 };
     struct place p = { volume, volume + volume_bytes };
     uint32_t count, entry[4];
     uint64_t cents = 0, refusal = read_number(&p, 0, MOST_ENTRIES, &count);

@@ -1,4 +1,4 @@
-/* The shift volume and the duty on it in plain C, written from requests (d) and (e) of document 02. */
+/* The shift volume and the duty on it under a table of eight rates in plain C, written from requests (d) and (e) of document 02. */
 #ifndef PLAIN_VOLUME_H
 #define PLAIN_VOLUME_H
 
@@ -13,6 +13,6 @@ struct plain_answer {
 
 struct plain_answer plain_write_volume(const uint32_t *entries, size_t numbers, uint8_t *lent, size_t lent_bytes);
 struct plain_answer plain_read_volume(const uint8_t *volume, size_t volume_bytes, uint32_t *entries, size_t numbers);
-struct plain_answer plain_duty(const uint8_t *volume, size_t volume_bytes);
+struct plain_answer plain_duty(const uint16_t *rates, const uint8_t *volume, size_t volume_bytes);
 
 #endif

@@ -19,7 +19,7 @@ struct call {
 static struct call set_up = {"hc_set_up", 0}, cipher = {"hc_cipher", 0}, move = {"hc_move", 0}, checkpoint_length = {"hc_checkpoint_length", 0},
                    writing = {"hc_write", 0}, recover = {"hc_recover", 0}, load = {"hc_load", 0}, spent = {"hc_spent", 0},
                    write_volume = {"hc_write_volume", 0}, read_volume = {"hc_read_volume", 0}, encipher_volume = {"hc_encipher_volume", 0},
-                   duty = {"hc_volume_duty", 0};
+                   our_rates = {"hc_our_rates", 0}, load_rates = {"hc_load_rates", 0}, duty = {"hc_volume_duty", 0};
 
 /* Makes a call with up to eight arguments, the last two on the stack, and keeps the most that it took. */
 static void measure(struct call *call, void *function, const uintptr_t arguments[8])
@@ -85,6 +85,7 @@ static void of_volumes(uint32_t code, size_t key_bytes, size_t words)
     static uint32_t entries[4 * HC_VOLUME_ENTRIES], list[4 * HC_VOLUME_ENTRIES];
     static uint8_t volume[HC_VOLUME_BYTES];
     struct hc_head head = {0};
+    struct hc_rates rates = hc_our_rates();
     hc_set_up(&head, code, key, key_bytes, iv, key_bytes, area, words);
     for (size_t n = 0; n <= HC_VOLUME_ENTRIES; n = 2 * n + 1) {
         for (size_t i = 0; i < 4 * n; i++)
@@ -96,7 +97,7 @@ static void of_volumes(uint32_t code, size_t key_bytes, size_t words)
             printf("a volume of %zu entries was not read back\n", n);
             exit(1);
         }
-        MEASURE(duty, hc_volume_duty, AT(volume), length);
+        MEASURE(duty, hc_volume_duty, AT(&rates), AT(volume), length);
         uint64_t end = head.position + length;
         MEASURE(encipher_volume, hc_encipher_volume, AT(&head), AT(area), words, AT(volume), length);
         if (head.position != end) {
@@ -106,14 +107,36 @@ static void of_volumes(uint32_t code, size_t key_bytes, size_t words)
     }
 }
 
+/* Our rates; and tables of none to eight pairs, whose rates have one to three groups, loaded whole and cut after every byte. */
+static void of_rates(void)
+{
+    static const uint8_t string[HC_RATES_BYTES] = {8,    1,    0xFF, 0xFF, 0x03, 2,    0x80, 0x01, 3,    0x7F, 4,    0xFF, 0xFF, 0x03, 5,
+                                                   0xFF, 0x7F, 6,    0x01, 7,    0xFF, 0xFF, 0x03, 8,    0x80, 0x80, 0x01};
+    static const size_t lengths[] = {1, 5, 8, 10, 14, 17, 19, 23, 27}; /* of the tables of so many pairs */
+    static uint8_t table[HC_RATES_BYTES];
+    struct hc_rates rates = hc_our_rates();
+    MEASURE(our_rates, hc_our_rates, 0);
+    for (uint8_t pairs = 0; pairs <= HC_PRODUCTS; pairs++) {
+        memcpy(table, string, lengths[pairs]);
+        table[0] = pairs;
+        for (size_t length = 0; length <= lengths[pairs]; length++)
+            MEASURE(load_rates, hc_load_rates, AT(&rates), AT(table), length);
+        if (pairs > 0 && rates.cents[pairs - 1] == 0) {
+            printf("a table of %d pairs was not loaded\n", pairs);
+            exit(1);
+        }
+    }
+}
+
 int main(void)
 {
     const struct call *calls[] = {&set_up, &cipher, &move, &checkpoint_length, &writing, &recover, &load, &spent,
-                                  &write_volume, &read_volume, &encipher_volume, &duty};
+                                  &write_volume, &read_volume, &encipher_volume, &our_rates, &load_rates, &duty};
     of_cipher(HC_128, HC_128_KEY_BYTES, HC_128_AREA_WORDS);
     of_cipher(HC_256, HC_256_KEY_BYTES, HC_256_AREA_WORDS);
     of_volumes(HC_128, HC_128_KEY_BYTES, HC_128_AREA_WORDS);
     of_volumes(HC_256, HC_256_KEY_BYTES, HC_256_AREA_WORDS);
+    of_rates();
     for (size_t i = 0; i < sizeof calls / sizeof *calls; i++)
         printf("%-21s %5zu bytes\n", calls[i]->name, (calls[i]->most + 7) / 8 * 8);
     return 0;

@@ -4,14 +4,16 @@
  * lock and does no input or output, so every call is reentrant, and two engines may be used by two threads at once. From the C library it needs
  * memcpy and memset.
  *
- * Every call returns 0 (HC_OK) or the number of its first refusal, in the order given at the call. A refused call changes nothing: the head, the area
- * and every byte and number that you lent keep their values. Keys, IVs and keystream are bytes; an area is 32-bit words; a position counts bytes. No
- * structure below has padding, so a call writes no byte of a head, or of what it returns, that is not the value of a field.
+ * Every call but hc_our_rates, which is never refused, returns 0 (HC_OK) or the number of its first refusal, in the order given at the call. A
+ * refused call changes nothing: the head, the area, the table of rates and every byte and number that you lent keep their values. Keys, IVs and
+ * keystream are bytes; an area is 32-bit words; a position counts bytes. No structure below has padding, so a call writes no byte of a head, of a
+ * table of rates or of what it returns that is not the value of a field.
  *
  * Your obligations, which C cannot check and the proofs take for granted:
- *   - A pointer is not null and points to as many elements as the length after it says, aligned for its type, for the whole call.
- *   - Of what you lend to one call (head, area, bytes, buffers), nothing that the call writes may overlap anything else. It writes to what is
- *     not const. Inputs that are const may overlap one another.
+ *   - A pointer is not null and points to as many elements as the length after it says, or to one structure where there is none, aligned for its
+ *     type, for the whole call.
+ *   - Of what you lend to one call (head, area, table of rates, bytes, buffers), nothing that the call writes may overlap anything else. It writes to
+ *     what is not const. Inputs that are const may overlap one another.
  *   - While a call runs, no other thread, interrupt or signal handler writes what you lent, or reads what the call writes.
  *   - Keep a head with its own area, and copy both between the same two calls. Refusal 13 notices some of what goes wrong here, and not all.
  *   - Never encipher two texts at the same positions under one key and IV. Moving back, loading a checkpoint twice or a second set up brings you
@@ -79,13 +81,23 @@ extern "C" {
 #define HC_VOLUME_BYTES 16002
 
 /* The component duty: for an entry litres times ratio times the rate of its product, divided by 10,000 and cut down to whole cents; for a volume the
- * sum over its entries. The rates, in cents per litre:
+ * sum over its entries. The rates are those of the table in use, which is ours until a refinery loads its own. Our rates, in cents per litre:
  *     product   1    2   3   4   5   6   7   8
  *     rate      120  95  95  60  40  40  15  0
  * Where the ratio of one entry changes by d hundredths of a percent and nothing else changes, the duty on the volume changes by at most litres times
- * rate times d over 10,000, rounded up, with the litres of that entry and the rate of its product.
- * HC_MOST_DUTY is the greatest duty of any volume, in cents: 2,000 entries of 100,000 litres at 10,000 of product 1. It does not fit 32 bits. */
+ * rate times d over 10,000, rounded up, with the litres of that entry and the rate of its product. That holds under every table of rates.
+ * HC_MOST_DUTY is the greatest duty of any volume under our rates, in cents: 2,000 entries of 100,000 litres at 10,000 of product 1.
+ * HC_MOST_OWN_DUTY is the greatest under any table of rates: the same volume where the rate of product 1 is 65,535. Neither fits 32 bits. */
 #define HC_MOST_DUTY UINT64_C(24000000000)
+#define HC_MOST_OWN_DUTY UINT64_C(13107000000000)
+
+/* A refinery's own table of rates, as a string: a count of pairs, 0 to HC_PRODUCTS, then that many pairs, two numbers each and in this order:
+ *     product                            1 to HC_PRODUCTS, each above the one of the pair before
+ *     rate in cents per litre            0 to 65,535
+ * The numbers are in the groups of seven bits of a volume, three at most. A product without a pair has rate 0. HC_RATES_BYTES is the length of the
+ * longest string. */
+#define HC_PRODUCTS 8
+#define HC_RATES_BYTES 33
 
 enum hc_refusal {
     HC_OK = 0,
@@ -104,7 +116,10 @@ enum hc_refusal {
     HC_FALSE_WORD = 13,    /* the head's word is not the one that the area has at the head's position */
     HC_VOLUME_NUMBER = 14, /* a number of the volume is not in its shortest form, or its third group announces another */
     HC_VOLUME_RANGE = 15,  /* a number of the volume, or of the entries to write, is out of its range */
-    HC_VOLUME_ENDS = 16    /* the volume ends early or has bytes after its last entry; or the numbers to write are not whole entries */
+    HC_VOLUME_ENDS = 16,   /* the volume ends early or has bytes after its last entry; or the numbers to write are not whole entries */
+    HC_BAD_RATES = 24,     /* a number of the table of rates is not in its shortest form, its third group announces another, or it is out of its
+                              range; or the table ends early or has bytes after its last pair */
+    HC_RATES_ORDER = 25    /* a product of the table of rates is not above the one before it */
 };
 
 /* A head. Start with { 0, 0, 0, 0 }; only the calls below change it. */
@@ -133,6 +148,12 @@ struct hc_words {
 struct hc_count {
     uint64_t refusal;
     uint64_t count;
+};
+
+/* A table of rates: the rate of product p is cents[p - 1], in cents per litre. The table in use is yours, like a head: start with what hc_our_rates
+ * returns, and let hc_load_rates replace it. Any 16-bit numbers are a table, also those that you made up. */
+struct hc_rates {
+    uint16_t cents[HC_PRODUCTS];
 };
 
 /* What hc_volume_duty returns. cents is 0 where the call is refused. */
@@ -216,9 +237,27 @@ struct hc_count hc_read_volume(const uint8_t *volume, size_t volume_bytes, uint3
  */
 uint64_t hc_encipher_volume(struct hc_head *head, uint32_t *area, size_t area_words, uint8_t *volume, size_t volume_bytes);
 
-/* Volume duty: the component duty on a volume, in whole cents. volume is the volume and no byte more, and not enciphered.
+/* Our rates: our table, which is in use until a refinery loads its own. Refusals: none. Stack: 0 bytes. */
+struct hc_rates hc_our_rates(void);
+
+/* Load rates: the rates of a refinery's own table take the place of the table in use; a product without a pair then has rate 0. string is the table's
+ * string and no byte more. Where it is refused, the table in use stays.
+ * Refusals, for the first number from the string's start that is at fault: 24 where the string ends before the number's last group, where it is not
+ * in its shortest form, where its third group announces another, or where it is out of its range; 25 where it is a product that is not above the
+ * product before it (24 where it earns both); then 24 for bytes after the last pair. Stack: 88 bytes.
+ *
+ * A refinery with duty on two products:
+ *
+ *     static const uint8_t own[] = {0x02, 0x02, 0xC8, 0x01, 0x04, 0x46}; // two pairs: product 2 at 200 cents, product 4 at 70
+ *     struct hc_rates rates = hc_our_rates();
+ *     refusal = hc_load_rates(&rates, own, sizeof own);
+ */
+uint64_t hc_load_rates(struct hc_rates *rates, const uint8_t *string, size_t string_bytes);
+
+/* Volume duty: the component duty on a volume under the table of rates in use, in whole cents. volume is the volume and no byte more, and not
+ * enciphered. Every table is taken as it is: under any of them the duty fits 64 bits.
  * Refusals: 16, 14, 15 as hc_read_volume. Stack: 72 bytes. */
-struct hc_duty hc_volume_duty(const uint8_t *volume, size_t volume_bytes);
+struct hc_duty hc_volume_duty(const struct hc_rates *rates, const uint8_t *volume, size_t volume_bytes);
 
 #ifdef __cplusplus
 }

@@ -1,6 +1,7 @@
 /* The first program to write: log blend ratios, keep a checkpoint, go on from it elsewhere, and read everything back without the key. On the way it shows
  * that a look back at an old entry leaves what is spent, that a refused call changes nothing, and that a head is refused with an area that was copied
- * too early. At the end a shift's entries are written as a volume, enciphered, deciphered and read, and their duty is worked out. */
+ * too early. At the end a shift's entries are written as a volume, enciphered, deciphered and read, and their duty is worked out, under our rates and
+ * under a refinery's own. */
 #include <inttypes.h>
 #include <stdio.h>
 #include <stdlib.h>
@@ -25,6 +26,8 @@ NO_PADDING(hc_head, SIZE(hc_head, code) + SIZE(hc_head, word) + SIZE(hc_head, po
 NO_PADDING(hc_length, SIZE(hc_length, refusal) + SIZE(hc_length, length));
 NO_PADDING(hc_words, SIZE(hc_words, refusal) + SIZE(hc_words, key) + SIZE(hc_words, iv));
 NO_PADDING(hc_count, SIZE(hc_count, refusal) + SIZE(hc_count, count));
+NO_PADDING(hc_duty, SIZE(hc_duty, refusal) + SIZE(hc_duty, cents));
+NO_PADDING(hc_rates, HC_PRODUCTS * sizeof(uint16_t));
 NO_PADDING(engine, SIZE(engine, head) + SIZE(engine, area));
 
 static void check(const char *call, uint64_t refusal)
@@ -52,6 +55,28 @@ static void show(const char *what, const uint8_t *bytes, size_t n)
 }
 
 #define ENTRIES 2
+
+/* A refinery loads its own rates, and the duty is then worked out under them. A table that is refused leaves every byte of the one in use. */
+static void own_rates(const uint8_t *volume, size_t volume_bytes)
+{
+    static const uint8_t own[] = {0x02, 0x02, 0xC8, 0x01, 0x04, 0x46};     /* two pairs: product 2 at 200 cents, product 4 at 70 */
+    static const uint8_t falling[] = {0x02, 0x04, 0x46, 0x02, 0xC8, 0x01}; /* the same two with the greater product first */
+    struct hc_rates rates = hc_our_rates(), in_use;
+    check("load rates", hc_load_rates(&rates, own, sizeof own));
+    printf("own rates:");
+    for (size_t i = 0; i < HC_PRODUCTS; i++)
+        printf(" %d", rates.cents[i]);
+    struct hc_duty duty = hc_volume_duty(&rates, volume, volume_bytes);
+    check("volume duty", duty.refusal);
+    printf("; duty under them: %" PRIu64 " cents\n", duty.cents);
+
+    in_use = rates;
+    uint64_t missing = hc_load_rates(&rates, own, sizeof own - 1);
+    check_same("the table in use", &in_use, &rates, sizeof rates);
+    uint64_t order = hc_load_rates(&rates, falling, sizeof falling);
+    check_same("the table in use", &in_use, &rates, sizeof rates);
+    printf("a table without its last byte is refused with %" PRIu64 ", a falling product with %" PRIu64 ", and every rate stays\n", missing, order);
+}
 
 /* A shift's entries are written as a volume and enciphered behind what the box has logged; then the box moves back, deciphers the volume and reads it. */
 static void log_shift(void)
@@ -91,18 +116,20 @@ static void log_shift(void)
         const uint32_t *entry = found + HC_ENTRY_NUMBERS * i;
         printf("  after %" PRIu32 " minutes %" PRIu32 " litres at %" PRIu32 " of product %" PRIu32 "\n", entry[0], entry[1], entry[2], entry[3]);
     }
-    struct hc_duty duty = hc_volume_duty(volume, written.length);
+    struct hc_rates rates = hc_our_rates();
+    struct hc_duty duty = hc_volume_duty(&rates, volume, written.length);
     check("volume duty", duty.refusal);
     printf("duty: %" PRIu64 " cents\n", duty.cents);
+    own_rates(volume, written.length);
 
     /* The example of document 02: one entry of 1,000 litres at 525 of product 4 owes 3,150 cents. */
     written = hc_write_volume(entries, HC_ENTRY_NUMBERS, volume, sizeof volume);
     check("write volume", written.refusal);
-    duty = hc_volume_duty(volume, written.length);
+    duty = hc_volume_duty(&rates, volume, written.length);
     check("volume duty", duty.refusal);
     printf("duty on the first entry alone: %" PRIu64 " cents\n", duty.cents);
 
-    /* No volume owes more than HC_MOST_DUTY, and 2,000 such entries owe as much. */
+    /* Under our rates no volume owes more than HC_MOST_DUTY, and 2,000 such entries owe as much; under any rates HC_MOST_OWN_DUTY. */
     static uint32_t most[HC_VOLUME_ENTRIES * HC_ENTRY_NUMBERS];
     static uint8_t longest[HC_VOLUME_BYTES];
     for (size_t i = 0; i < HC_VOLUME_ENTRIES; i++) {
@@ -112,12 +139,16 @@ static void log_shift(void)
     }
     struct hc_length most_written = hc_write_volume(most, HC_VOLUME_ENTRIES * HC_ENTRY_NUMBERS, longest, sizeof longest);
     check("write volume", most_written.refusal);
-    duty = hc_volume_duty(longest, most_written.length);
+    duty = hc_volume_duty(&rates, longest, most_written.length);
     check("volume duty", duty.refusal);
     printf("the greatest duty: %" PRIu64 " cents, which is %sHC_MOST_DUTY\n", duty.cents, duty.cents == HC_MOST_DUTY ? "" : "not ");
+    const struct hc_rates greatest = {{65535}};
+    duty = hc_volume_duty(&greatest, longest, most_written.length);
+    check("volume duty", duty.refusal);
+    printf("under any rates: %" PRIu64 " cents, which is %sHC_MOST_OWN_DUTY\n", duty.cents, duty.cents == HC_MOST_OWN_DUTY ? "" : "not ");
 
     /* A volume that is cut is refused with 16, and has no duty. */
-    duty = hc_volume_duty(volume, written.length - 1);
+    duty = hc_volume_duty(&rates, volume, written.length - 1);
     printf("duty on that volume without its last byte: refused with %" PRIu64 ", %" PRIu64 " cents\n", duty.refusal, duty.cents);
 }
 

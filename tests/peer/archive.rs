@@ -34,6 +34,12 @@ pub struct HcCount {
 
 #[repr(C)]
 #[derive(Clone, Copy)]
+pub struct HcRates {
+    pub cents: [u16; 8],
+}
+
+#[repr(C)]
+#[derive(Clone, Copy)]
 pub struct HcDuty {
     pub refusal: u64,
     pub cents: u64,
@@ -44,6 +50,7 @@ const _: () = assert!(size_of::<HcHead>() == 4 + 4 + 8 + 8);
 const _: () = assert!(size_of::<HcLength>() == 8 + 8);
 const _: () = assert!(size_of::<HcWords>() == 8 + 8 * 4 + 8 * 4);
 const _: () = assert!(size_of::<HcCount>() == 8 + 8);
+const _: () = assert!(size_of::<HcRates>() == 8 * 2);
 const _: () = assert!(size_of::<HcDuty>() == 8 + 8);
 
 extern "C" {
@@ -75,5 +82,7 @@ extern "C" {
     pub fn hc_write_volume(entries: *const u32, numbers: usize, lent: *mut u8, lent_bytes: usize) -> HcLength;
     pub fn hc_read_volume(volume: *const u8, volume_bytes: usize, entries: *mut u32, numbers: usize) -> HcCount;
     pub fn hc_encipher_volume(head: *mut HcHead, area: *mut u32, area_words: usize, volume: *mut u8, volume_bytes: usize) -> u64;
-    pub fn hc_volume_duty(volume: *const u8, volume_bytes: usize) -> HcDuty;
+    pub fn hc_our_rates() -> HcRates;
+    pub fn hc_load_rates(rates: *mut HcRates, string: *const u8, string_bytes: usize) -> u64;
+    pub fn hc_volume_duty(rates: *const HcRates, volume: *const u8, volume_bytes: usize) -> HcDuty;
 }

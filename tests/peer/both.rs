@@ -1,10 +1,12 @@
-//! One engine held twice, by the archive and by the peer; each call is made on both and everything is compared.
+//! One engine and one table of rates held twice, by the archive and by the peer; each call is made on both and everything is
+//! compared.
 
-use crate::archive::{self, HcCount, HcDuty, HcHead, HcLength, HcWords};
+use crate::archive::{self, HcCount, HcDuty, HcHead, HcLength, HcRates, HcWords};
 use crate::calls::{self, Head};
 use crate::ciphers::{self, Cipher};
 use crate::duty;
 use crate::lent::Lent;
+use crate::rates::{self, Rates};
 use crate::tally::Tally;
 use crate::volume::{self, Fault};
 use std::fmt::{Debug, LowerHex};
@@ -16,15 +18,20 @@ pub type Agreed<T> = Result<Result<T, u64>, String>;
 const BYTE_GUARD: u8 = 0xA5;
 const WORD_GUARD: u32 = 0xA5C3_965A;
 const HEAD_GUARD: u64 = 0xA5C3_965A_3C69_F00F;
+const RATE_GUARD: u16 = 0xA5C3;
 
 pub struct Both<'t> {
     /// The archive's head as raw memory, in the midst of a pattern.
     archive_head: Lent<u64>,
     archive_area: Lent<u32>,
+    /// The archive's table of rates in use.
+    archive_rates: Lent<u16>,
     /// The peer's head.
     pub head: Head,
     /// The peer's memory for areas, of which each call is lent the first words.
     pub area: Vec<u32>,
+    /// The peer's table of rates in use.
+    pub rates: Rates,
     /// The calls made so far.
     pub calls: u64,
     pub tally: &'t mut Tally,
@@ -93,6 +100,11 @@ fn bytes_of_numbers(numbers: &[u64]) -> Vec<u8> {
     numbers.iter().flat_map(|number| number.to_le_bytes()).collect()
 }
 
+/// The bytes of numbers of 16 bits in memory.
+fn bytes_of_rates(rates: &[u16]) -> Vec<u8> {
+    rates.iter().flat_map(|rate| rate.to_le_bytes()).collect()
+}
+
 /// The word that the count has for a refusal or for none.
 fn answer<T>(result: &Result<T, u64>) -> String {
     match result {
@@ -128,14 +140,26 @@ pub fn short(bytes: &[u8]) -> String {
     format!("{} bytes [{}{}]", bytes.len(), first.join(" "), more)
 }
 
+/// All bytes in hexadecimal where they are no more than those of two tables of rates, else the first of them.
+fn in_full(bytes: &[u8]) -> String {
+    if bytes.len() > 66 {
+        short(bytes)
+    } else {
+        format!("{bytes:02x?}")
+    }
+}
+
 impl<'t> Both<'t> {
+    /// Our rates are in use to begin with, on each side as it has them.
     pub fn new(head: Head, area: Vec<u32>, tally: &'t mut Tally) -> Both<'t> {
         let before = 1 + (tally.calls % 7) as usize;
         let mut both = Both {
             archive_head: Lent::new(&[HEAD_GUARD; 3], HEAD_GUARD, before),
             archive_area: Lent::new(&area, WORD_GUARD, before),
+            archive_rates: Lent::new(&unsafe { archive::hc_our_rates() }.cents, RATE_GUARD, before),
             head,
             area,
+            rates: rates::OURS,
             calls: 0,
             tally,
         };
@@ -156,8 +180,18 @@ impl<'t> Both<'t> {
         self.area.copy_from_slice(area);
     }
 
+    /// Puts a table of the caller's choice in the place of the one in use, on both sides.
+    pub fn put_rates(&mut self, rates: Rates) {
+        self.archive_rates.content_mut().copy_from_slice(&rates);
+        self.rates = rates;
+    }
+
     fn head_pointer(&mut self) -> *mut HcHead {
         self.archive_head.pointer().cast()
+    }
+
+    fn rates_pointer(&mut self) -> *mut HcRates {
+        self.archive_rates.pointer().cast()
     }
 
     /// Whether the head names a cipher and a position and has another word than the tables.
@@ -190,12 +224,14 @@ impl<'t> Both<'t> {
         Comparison { call: text, differences: Vec::new() }
     }
 
-    /// Compares heads, areas and guards, and gives the text of all differences of the call.
+    /// Compares heads, areas, tables of rates and guards, and gives the text of all differences of the call.
     fn end(&mut self, mut comparison: Comparison) -> Result<(), String> {
         comparison.equal_bytes("head", &bytes_of_numbers(self.archive_head.content()), &bytes_of_head(self.head));
         comparison.guards("head", &self.archive_head);
         comparison.equal_lists("area", self.archive_area.content(), &self.area);
         comparison.guards("area", &self.archive_area);
+        comparison.equal_bytes("table of rates", &bytes_of_rates(self.archive_rates.content()), &bytes_of_rates(&self.rates));
+        comparison.guards("table of rates", &self.archive_rates);
         if comparison.differences.is_empty() {
             Ok(())
         } else {
@@ -658,13 +694,93 @@ impl<'t> Both<'t> {
         }
     }
 
-    /// Volume duty, which takes neither head nor area; both are compared all the same. The archive must refuse just what its read
-    /// volume refuses where the list is long enough, with the same number.
+    /// Our rates, which takes nothing; what is held is compared all the same.
+    pub fn our_rates(&mut self) -> Agreed<Rates> {
+        let mut comparison = self.begin("our rates".to_string());
+        let returned = unsafe { archive::hc_our_rates() };
+        comparison.equal("returned rates", returned.cents, rates::OURS);
+        let returned_bytes = unsafe { transmute::<HcRates, [u8; 16]>(returned) };
+        comparison.equal_bytes("returned structure", &returned_bytes, &bytes_of_rates(&rates::OURS));
+        self.end(comparison)?;
+        self.tally.call("our rates", "accepted", None);
+        Ok(Ok(rates::OURS))
+    }
+
+    /// Load rates, which replaces the table in use. It takes neither head nor area; both are compared all the same.
+    pub fn load_rates(&mut self, string: &[u8]) -> Agreed<()> {
+        self.load_rates_before(string, &[])
+    }
+
+    /// Load rates where other bytes follow in memory, which are not part of the string.
+    pub fn load_rates_before(&mut self, string: &[u8], after: &[u8]) -> Agreed<()> {
+        let before = self.rates;
+        let mut comparison = self.begin(format!("load rates, {}, rates {before:?}", in_full(string)));
+        let mut lent = self.lend(&[string, after].concat());
+        let in_use = self.rates_pointer();
+        let refusal = unsafe { archive::hc_load_rates(in_use, lent.pointer(), string.len()) };
+        let result = rates::load(&mut self.rates, string);
+        comparison.equal("answer", plain(refusal), result);
+        if result.is_err() {
+            let kept = bytes_of_rates(self.archive_rates.content());
+            comparison.equal_bytes("table of rates of a refused call", &kept, &bytes_of_rates(&before));
+        }
+        comparison.equal_lists("string", &lent.content()[..string.len()], string);
+        comparison.equal_lists("bytes after the string", &lent.content()[string.len()..], after);
+        comparison.guards("string", &lent);
+        self.end(comparison)?;
+        self.count_load_rates(string, before, result);
+        Ok(result)
+    }
+
+    /// Counts a load of rates.
+    fn count_load_rates(&mut self, string: &[u8], before: Rates, result: Result<(), u64>) {
+        let mut faults = rates::faults_of(string);
+        faults.sort();
+        let answer = match faults.first() {
+            None => answer(&result),
+            Some((_, fault @ (rates::Fault::BytesAfter | rates::Fault::NotAbove))) => fault.kind().to_string(),
+            Some((place, fault)) => format!("{}, {}", fault.kind(), rates::number_at(*place).name),
+        };
+        self.tally.call("load rates", &answer, None);
+        let after = self.rates;
+        let mut special = |holds: bool, what: &str| {
+            if holds {
+                self.tally.special(what, None);
+            }
+        };
+        if let Some((place, fault)) = faults.first() {
+            let refusal = fault.refusal();
+            let is_later = |of: u64| faults.iter().any(|(other, fault)| other > place && fault.refusal() == of);
+            let table = if before == rates::OURS { "our rates" } else { "another table" };
+            special(true, &format!("{refusal} in load rates over {table}"));
+            special(refusal == 24 && is_later(25), "24 before 25 in load rates");
+            special(refusal == 25 && is_later(24), "25 before 24 in load rates");
+            special(refusal == 24 && faults.contains(&(*place, rates::Fault::NotAbove)), "24 where 25 is earned in load rates");
+            let shorter = &string[..string.len().saturating_sub(1)];
+            let is_at_end =
+                *fault == rates::Fault::ThirdAnnounces && rates::table_of(shorter) == Err((*place, rates::Fault::Ends));
+            special(is_at_end, "24 for a third group at the end in load rates");
+            special(refusal == 25 && *place == 15, "25 in the eighth pair in load rates");
+            return;
+        }
+        let pairs = string[0];
+        special(pairs == 0, "load rates of no pairs");
+        special(pairs == 8, "load rates of eight pairs");
+        special(before != rates::OURS, "load rates over another table than ours");
+        special(after.contains(&65_535), "load rates with the greatest rate");
+        let is_lost = |product: usize| before[product - 1] > 0 && after[product - 1] == 0;
+        special((1..=8).any(is_lost), "load rates that takes a rate to 0");
+        special(pairs > 0 && after == before, "load rates that changes nothing");
+    }
+
+    /// Volume duty under the table in use. It takes neither head nor area; both are compared all the same. The archive must refuse
+    /// just what its read volume refuses where the list is long enough, with the same number.
     pub fn volume_duty(&mut self, string: &[u8]) -> Agreed<u64> {
-        let mut comparison = self.begin(format!("volume duty, {}", short(string)));
+        let mut comparison = self.begin(format!("volume duty, {}, rates {:?}", short(string), self.rates));
         let mut lent = self.lend(string);
-        let returned = unsafe { archive::hc_volume_duty(lent.pointer(), string.len()) };
-        let result = duty::volume_duty(string);
+        let in_use = self.rates_pointer();
+        let returned = unsafe { archive::hc_volume_duty(in_use, lent.pointer(), string.len()) };
+        let result = duty::volume_duty(&self.rates, string);
         comparison.equal("answer", plain(returned.refusal), result.map(|_| ()));
         comparison.equal("returned cents", returned.cents, result.unwrap_or(0));
         let returned_bytes = unsafe { transmute::<HcDuty, [u8; 16]>(returned) };
@@ -687,20 +803,21 @@ impl<'t> Both<'t> {
     fn count_volume_duty(&mut self, string: &[u8], result: Result<u64, u64>) {
         let fault = volume::entries_of(string).err();
         self.tally.call("volume duty", &fault.map_or(answer(&result), answer_of_fault), None);
+        let rates = self.rates;
         let mut special = |holds: bool, what: &str| {
             if holds {
                 self.tally.special(what, None);
             }
         };
         let entries = volume::entries_before_fault(string);
-        let cents = duty::of_entries(&entries);
+        let cents = duty::of_entries(&rates, &entries);
         if let Some(fault) = fault {
             special(cents > 0, &format!("{} after entries with duty in volume duty", fault.refusal()));
             special(cents > 0 && fault == Fault::BytesAfter, "bytes after entries with duty in volume duty");
             special(is_14_at_end(string, fault), "14 at the end of the string in volume duty");
             return;
         }
-        let undivided: Vec<u128> = entries.chunks(4).map(duty::undivided).collect();
+        let undivided: Vec<u128> = entries.chunks(4).map(|entry| duty::undivided(&rates, entry)).collect();
         let has_part_of = |product: u32| entries.chunks(4).any(|entry| entry[3] == product && entry[1] > 0 && entry[2] > 0);
         special(entries.is_empty(), "volume duty of no entries");
         special(entries.len() == 8_000, "volume duty of 2,000 entries");
@@ -709,5 +826,12 @@ impl<'t> Both<'t> {
         special(undivided.iter().any(|product| *product > u32::MAX as u128), "volume duty, product of more than 32 bits");
         special(undivided.iter().sum::<u128>() / 10_000 > cents as u128, "volume duty, less than the sum cut down");
         special(cents > u32::MAX as u64, "volume duty of more than 32 bits");
+        let is_large = |product: &u128| product / 10_000 > u32::MAX as u128;
+        special(undivided.iter().any(is_large), "volume duty, entry of more than 32 bits");
+        special(cents > 24_000_000_000, "volume duty over the greatest under our rates");
+        special(
+            rates != rates::OURS && cents != duty::of_entries(&rates::OURS, &entries),
+            "volume duty other than under our rates",
+        );
     }
 }

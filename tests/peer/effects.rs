@@ -10,7 +10,7 @@ use crate::tally::Tally;
 use crate::whole::must;
 
 /// Litres and product of an entry, its ratio before and after, the cents that it owes before and after, and the bound.
-type Change = (u32, u32, [u32; 2], [u64; 2], u64);
+pub type Change = (u32, u32, [u32; 2], [u64; 2], u64);
 
 const CHANGES: [Change; 44] = [
     // Litres times rate times d over 10,000 is a whole number, and the cents change by just that.
@@ -77,8 +77,8 @@ const AROUND_2_32: [Change; 6] = [
     (100_000, 1, [10_000, 0], [12_000_000, 0], 12_000_000),
 ];
 
-/// One change in this place among others that owe so many cents together.
-fn change(both: &mut Both, others: &[Entry], owed: u64, place: usize, change: Change) -> Result<(), String> {
+/// One change in this place among others that owe so many cents together, under the table of rates in use.
+pub fn change(both: &mut Both, others: &[Entry], owed: u64, place: usize, change: Change) -> Result<(), String> {
     let (litres, product, ratios, cents, bound) = change;
     let duties = cents.map(|cents| owed + cents);
     for (ratio, duty) in ratios.into_iter().zip(duties) {
@@ -89,7 +89,7 @@ fn change(both: &mut Both, others: &[Entry], owed: u64, place: usize, change: Ch
     }
     must(duties[0].abs_diff(duties[1]) <= bound, &format!("{change:?}, the duty changes by no more than the bound"))?;
     // The random volumes are compared with the bound that the peer works out.
-    let own_bound = duty::most_change(&[9, litres, ratios[0], product], ratios[0].abs_diff(ratios[1]));
+    let own_bound = duty::most_change(&both.rates, &[9, litres, ratios[0], product], ratios[0].abs_diff(ratios[1]));
     must(own_bound == bound as u128, &format!("{change:?}, the peer works out the same bound and not {own_bound}"))
 }
 

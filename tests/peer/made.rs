@@ -1,5 +1,6 @@
 //! Cases made by hand, with the answer that document 01, request (a) or (g) of document 02 or the C header gives for each. Those
-//! of request (b) are in marks.rs, those of (d) in volumes.rs, those of (e) in duties.rs and those of (f) in effects.rs.
+//! of request (b) are in marks.rs, those of (d) in volumes.rs, those of (e) in duties.rs, those of (f) in effects.rs and those of
+//! (n) in rate_tables.rs and rate_duties.rs.
 
 use crate::both::{Agreed, Both};
 use crate::calls::{self, Head, FRESH, LIMIT};
@@ -8,6 +9,8 @@ use crate::duties;
 use crate::effects;
 use crate::marks;
 use crate::random::Random;
+use crate::rate_duties;
+use crate::rate_tables;
 use crate::tally::Tally;
 use crate::vectors;
 use crate::volumes;
@@ -684,5 +687,7 @@ pub fn run(seed: u64, tally: &mut Tally) -> Result<(), String> {
     words_not_twice(&mut random, tally)?;
     length_examples(&mut random, tally)?;
     duties::run(tally)?;
-    effects::run(tally)
+    effects::run(tally)?;
+    rate_tables::run(tally)?;
+    rate_duties::run(tally)
 }

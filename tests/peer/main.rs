@@ -13,7 +13,11 @@ mod lists;
 mod made;
 mod marks;
 mod random;
+mod random_rates;
 mod random_volumes;
+mod rate_duties;
+mod rate_tables;
+mod rates;
 mod tally;
 mod vectors;
 mod volume;
@@ -33,6 +37,9 @@ const DEFAULT_LISTS: u64 = 3_000;
 
 /// How many random volumes there are for each random list.
 const VOLUMES_PER_LIST: u64 = 10;
+
+/// How many random runs of tables of rates there are for each random list.
+const RATES_PER_LIST: u64 = 10;
 
 /// A number from the command line, or its default.
 fn argument(place: usize, default: u64) -> Result<u64, String> {
@@ -71,6 +78,12 @@ fn compare(seed: u64, lists: u64) -> Result<(), String> {
         random_volumes::run(seed, volume, &mut random).map_err(|text| format!("random volume {volume}, {text}"))?;
     }
     println!("{volumes} random volumes: no difference");
+
+    let tables = RATES_PER_LIST * lists;
+    for number in 0..tables {
+        random_rates::run(seed, number, &mut random).map_err(|text| format!("random tables of rates {number}, {text}"))?;
+    }
+    println!("{tables} random runs of tables of rates: no difference");
     let faults = random.print_and_check();
     if !faults.is_empty() {
         return Err(faults.join("\n"));

@@ -4,6 +4,7 @@ use crate::both::Both;
 use crate::calls::{self, FRESH};
 use crate::duty;
 use crate::random::Random;
+use crate::rates;
 use crate::tally::Tally;
 use crate::volume::{self, Number, COUNT, ENTRY};
 use crate::whole::must;
@@ -98,7 +99,7 @@ pub fn any_entries(random: &mut Random) -> Vec<u32> {
 }
 
 /// Where the numbers of a string begin, as far as top bits tell, and where the last one ends.
-fn starts(string: &[u8]) -> Vec<usize> {
+pub fn starts(string: &[u8]) -> Vec<usize> {
     [0].into_iter().chain((0..string.len()).filter(|k| string[*k] < 0x80).map(|k| k + 1)).collect()
 }
 
@@ -203,7 +204,8 @@ fn write_and_read(random: &mut Random, both: &mut Both) -> Result<(), String> {
     let list = list_to_write(random);
     let length = near(random, volume::volume_of(&list).len());
     if let Ok(volume) = both.write_volume(&list, &random.bytes(length))? {
-        must(both.volume_duty(&volume)? == Ok(duty::of_entries(&list)), "the duty is the one on the written entries")?;
+        let owed = both.volume_duty(&volume)?;
+        must(owed == Ok(duty::of_entries(&both.rates, &list)), "the duty is the one on the written entries")?;
         let room = near(random, list.len()).max(list.len());
         let before = random.words(room);
         let expected = (list.len() as u64 / 4, [&list[..], &before[list.len()..]].concat());
@@ -229,7 +231,7 @@ fn read_and_write(random: &mut Random, both: &mut Both) -> Result<(), String> {
     must(owed.err() == refusal_of_reading.filter(|refusal| *refusal != 8), "reading gives the refusal of the duty, or 8")?;
     if let Ok((count, list)) = read {
         let list = &list[..4 * count as usize];
-        must(owed == Ok(duty::of_entries(list)), "the duty is the one on the entries read")?;
+        must(owed == Ok(duty::of_entries(&both.rates, list)), "the duty is the one on the entries read")?;
         let lent = near(random, string.len()).max(string.len());
         let written = both.write_volume(list, &random.bytes(lent))?;
         must(written == Ok(string), "what is read is written back as the same bytes")?;
@@ -254,7 +256,7 @@ fn other_ratio(random: &mut Random, ratio: u32) -> u32 {
 
 /// Takes the duty on a volume, and again after the ratio of one entry has changed. By request (f) the two differ by no more than
 /// the bound. They also differ by no less than the same amount cut down, so that an amount that is too large is noticed.
-fn change_ratio(random: &mut Random, both: &mut Both) -> Result<(), String> {
+pub fn change_ratio(random: &mut Random, both: &mut Both) -> Result<(), String> {
     let mut list = any_entries(random);
     if list.is_empty() {
         return Ok(());
@@ -270,11 +272,12 @@ fn change_ratio(random: &mut Random, both: &mut Both) -> Result<(), String> {
     list[4 * place + 2] = other;
     let after = both.volume_duty(&volume::volume_of(&list))?.map_err(refused)?;
     let difference = before.abs_diff(after) as u128;
-    let amount = duty::undivided_change(&entry, ratio.abs_diff(other));
-    let bound = duty::most_change(&entry, ratio.abs_diff(other));
+    let amount = duty::undivided_change(&both.rates, &entry, ratio.abs_diff(other));
+    let bound = duty::most_change(&both.rates, &entry, ratio.abs_diff(other));
     must(difference <= bound, &format!("{case}: {difference} cents are no more than {bound}"))?;
     must(difference >= amount / 10_000, &format!("{case}: {difference} cents are no less than {amount} over 10,000, cut down"))?;
 
+    let is_other_table = both.rates != rates::OURS;
     let mut special = |holds: bool, what: &str| {
         if holds {
             both.tally.special(&format!("changed ratio{what}"), None);
@@ -289,6 +292,7 @@ fn change_ratio(random: &mut Random, both: &mut Both) -> Result<(), String> {
     special(last != 0 && place == 0, " in the first of several entries");
     special(last != 0 && place == last, " in the last of several entries");
     special(0 < place && place < last, " in an entry between two others");
+    special(is_other_table, " under another table than ours");
     Ok(())
 }
 

@@ -43,8 +43,26 @@ const NO_VOLUME: [(&str, Where); 21] = [
     ("16 bytes after the last entry", Neither),
 ];
 
+/// The answers for strings that are not tables of rates.
+const NO_RATES: [(&str, Where); 14] = [
+    ("24 ends before the last group, count", Neither),
+    ("24 ends before the last group, product", Neither),
+    ("24 ends before the last group, rate", Neither),
+    ("24 not in shortest form, count", Neither),
+    ("24 not in shortest form, product", Neither),
+    ("24 not in shortest form, rate", Neither),
+    ("24 third group announces another, count", Neither),
+    ("24 third group announces another, product", Neither),
+    ("24 third group announces another, rate", Neither),
+    ("24 out of range, count", Neither),
+    ("24 out of range, product", Neither),
+    ("24 out of range, rate", Neither),
+    ("24 bytes after the last pair", Neither),
+    ("25 not above the one before", Neither),
+];
+
 /// For each call the answers that it must give.
-const EXPECTED: [(&str, &[(&str, Where)]); 14] = [
+const EXPECTED: [(&str, &[(&str, Where)]); 17] = [
     ("set up", &[("accepted", Ciphers), ("1", Neither), ("2", Ciphers), ("3", Ciphers), ("4", Ciphers)]),
     ("cipher", &[("accepted", Ciphers), ("1", Neither), ("4", Ciphers), ("5", Ciphers), ("13", Ciphers), ("6", Ciphers)]),
     (
@@ -99,6 +117,9 @@ const EXPECTED: [(&str, &[(&str, Where)]); 14] = [
     ("read volume", &NO_VOLUME),
     ("volume duty", &[("accepted", Neither)]),
     ("volume duty", &NO_VOLUME),
+    ("our rates", &[("accepted", Neither)]),
+    ("load rates", &[("accepted", Neither)]),
+    ("load rates", &NO_RATES),
     (
         "encipher volume",
         &[
@@ -185,7 +206,7 @@ const SPECIAL: [&str; 63] = [
 ];
 
 /// Calls of special interest that must occur where the code names no cipher or the call takes none.
-const SPECIAL_WITHOUT_CIPHER: [&str; 40] = [
+const SPECIAL_WITHOUT_CIPHER: [&str; 59] = [
     "14, 15 or 16 before 1 in encipher volume",
     "write volume of no entries",
     "write volume of 2,000 entries",
@@ -226,6 +247,25 @@ const SPECIAL_WITHOUT_CIPHER: [&str; 40] = [
     "changed ratio in the first of several entries",
     "changed ratio in the last of several entries",
     "changed ratio in an entry between two others",
+    "load rates of no pairs",
+    "load rates of eight pairs",
+    "load rates over another table than ours",
+    "load rates with the greatest rate",
+    "load rates that takes a rate to 0",
+    "load rates that changes nothing",
+    "24 in load rates over our rates",
+    "25 in load rates over our rates",
+    "24 in load rates over another table",
+    "25 in load rates over another table",
+    "24 before 25 in load rates",
+    "25 before 24 in load rates",
+    "24 where 25 is earned in load rates",
+    "24 for a third group at the end in load rates",
+    "25 in the eighth pair in load rates",
+    "volume duty, entry of more than 32 bits",
+    "volume duty over the greatest under our rates",
+    "volume duty other than under our rates",
+    "changed ratio under another table than ours",
 ];
 
 #[derive(Default)]

@@ -135,7 +135,7 @@ fn three_start(place: usize) -> usize {
 }
 
 /// A number with groups of 0 added to it.
-fn longer(bytes: &[u8], more: usize) -> Vec<u8> {
+pub fn longer(bytes: &[u8], more: usize) -> Vec<u8> {
     let mut groups = bytes.to_vec();
     for _ in 0..more {
         *groups.last_mut().unwrap() |= 0x80;

@@ -4,3 +4,4 @@ pub mod Lists
 pub mod Loops
 pub mod Results
 pub mod Stores
+pub mod Turns

@@ -4,7 +4,7 @@ use mathlib.Core.Bool.{Bool, true, false}
 use mathlib.Core.List.{List, [], _∷_, _++_}
 use mathlib.Core.Logic.{_↔_}
 use Prim.Native.Nat.{ℕ, zero, suc, _+_, _*_, _/_, _≤_, _<_}
-use native.Mathlib.Nat.{add-zero, zero-add, mul-le-mul-right}
+use native.Mathlib.Nat.{add-zero, zero-add, zero-mul, mul-le-mul-right}
 use native.Mathlib.Omega.{arith}
 use lib.ListN.{length, replicate, length-replicate}
 use Rattle.laws.specs.Result.{Result, refused, accepted, _>>=_}
@@ -17,9 +17,10 @@ use Rattle.volume.specs.Calls.{readValue, readEntry, readEntries, entriesIn, re
 use Rattle.volume.proofs.Values.{range-holds, range-most}
 use Rattle.volume.proofs.Ranges.{volume-in-range}
 use Rattle.volume.proofs.Undo.{volume-back}
-use Rattle.duty.specs.Duty.{ourRates, rateOf, entryDuty, entriesDuty}
+use Rattle.rates.specs.Rates.{ourRates, rateOf}
+use Rattle.duty.specs.Duty.{entryDuty, entriesDuty}
 use Rattle.duty.specs.Calls.{volumeDuty}
-use Rattle.duty.proofs.Most.{entries-most, our-rates-most}
+use Rattle.duty.proofs.Most.{RatesAtMost, entries-most, our-rates-most}
 use Rattle.theorems.specs.ShiftVolume.{Volume}
 use Rattle.theorems.specs.ComponentDuty.{mostDuty, ComponentDuty}
 use Rattle.theorems.proofs.Within.{first, after, volume-within, within-not}
@@ -106,16 +107,19 @@ module _ (rates string : List ℕ) where
 
 -- ── the greatest duty ──
 
-at-most : (string : List ℕ) (cents : ℕ) → volumeDuty ourRates string ≡ accepted cents → cents ≤ mostDuty
-at-most string cents e =
-    let s = duty-shows ourRates string cents e in
+-- under rates that are at most `most`
+pub duty-most : (most : ℕ) (rates : List ℕ) → RatesAtMost most rates
+    → (string : List ℕ) (cents : ℕ) → volumeDuty rates string ≡ accepted cents → cents ≤ 2000 * (100000 * most)
+duty-most most rates h string cents e =
+    let s = duty-shows rates string cents e in
     let r = volume-in-range string (s .0) (s .1) in
-    let most = entries-most 120 ourRates our-rates-most (s .0) (r .in-range) in
-    let count : length (s .0) * 12000000 ≤ 2000 * 12000000 = mul-le-mul-right 12000000 (range-most countRange (length (s .0)) (r .count-in)) in
-    omega (arith, most, count, s .2)
+    let all = entries-most most rates h (s .0) (r .in-range) in
+    let count : length (s .0) * (100000 * most) ≤ 2000 * (100000 * most) =
+    mul-le-mul-right (100000 * most) (range-most countRange (length (s .0)) (r .count-in)) in
+    omega (arith, all, count, s .2)
 
 -- an entry that owes most
-abbrev greatest : Entry
+abbrev pub greatest : Entry
 greatest = record { minutes = 0; litres = 100000; ratio = 10000; product = 1 }
 
 all-in-range : (n : ℕ) → entriesInRange (replicate n greatest) ≡ true
@@ -123,18 +127,22 @@ unfolding entriesInRange entryInRange
 all-in-range zero = refl
 all-in-range (suc n) = all-in-range n
 
-all-owe : (n : ℕ) → entriesDuty ourRates (replicate n greatest) ≡ n * 12000000
-unfolding entriesDuty entryDuty
-all-owe zero = refl
-all-owe (suc n) = omega (arith, all-owe n)
+all-owe : (rates : List ℕ) (n : ℕ) → entriesDuty rates (replicate n greatest) ≡ n * entryDuty rates greatest
+unfolding entriesDuty
+all-owe rates zero = sym (zero-mul (entryDuty rates greatest))
+all-owe rates (suc n) = omega (arith, all-owe rates n)
 
-reached : volumeDuty ourRates (volumeString (replicate 2000 greatest)) ≡ accepted mostDuty
-reached =
+pub greatest-owe : (rates : List ℕ) → volumeDuty rates (volumeString (replicate 2000 greatest)) ≡ accepted (2000 * entryDuty rates greatest)
+greatest-owe rates =
     let entries = replicate 2000 greatest in
     let count = length-replicate 2000 greatest in
-    duty-is ourRates (volumeString entries) entries
+    duty-is rates (volumeString entries) entries
     (volume-back entries (range-holds 0 2000 (length entries) (omega arith) (omega (arith, count))) (all-in-range 2000))
-    ∙ ap accepted (all-owe 2000)
+    ∙ ap accepted (all-owe rates 2000)
+
+reached : volumeDuty ourRates (volumeString (replicate 2000 greatest)) ≡ accepted mostDuty
+unfolding entryDuty
+reached = greatest-owe ourRates
 
 pub component-duty : ComponentDuty
 component-duty = record {
@@ -149,7 +157,7 @@ component-duty = record {
   refused-iff = as-reading;
   never-8 = never-8;
   accepted-where-8 = accepted-where-8;
-  at-most = at-most;
+  at-most = duty-most 120 ourRates our-rates-most;
   reached = reached;
   fits = omega arith;
 }

@@ -9,16 +9,17 @@ use Rattle.cipher.specs.Numbers.{byCode, areaLength, keyLength, ivLength}
 use Rattle.varint.specs.Number.{readNumber}
 use Rattle.volume.specs.Volume.{inRange, countRange, entriesInRange, volumeString, entriesOf}
 use Rattle.volume.specs.Calls.{entriesIn, readVolume, readVolumeCall, writeVolume, writeVolumeCall}
+use Rattle.rates.specs.Calls.{loadRates, loadRatesCall}
 use Rattle.duty.specs.Calls.{volumeDuty, volumeDutyCall}
 use Rattle.checkpoint.specs.Checkpoint.{mostGroups, lengthOf}
 use Rattle.conditions.specs.Limit.{limit}
 use Rattle.conditions.specs.Conditions.{setUpCheck, headCheck, cipherCheck, within, endOf, moveCheck, undoAt, foundOr12, recoverCheck, positionRead, firstByte, loadCheck}
 use Rattle.engine.specs.Calls.{headReady, setUp, setUpCall, cipher, cipherCall, encipherVolume, encipherVolumeCall, move, moveCall, write, writeCall, checkpointLength, checkpointLengthCall, recover, recoverCall, load, loadCall, spent, spentCall}
 use Rattle.theorems.specs.Demand1.{Demand1}
-use Rattle.theorems.proofs.Within.{by-none, first, after, then-line, line-unless, line-without, first-line, answers, word-within, head-within, found-within, end-within, position-within, volume-within}
+use Rattle.theorems.proofs.Within.{by-none, first, after, then-line, line-unless, line-without, first-line, answers, word-within, head-within, found-within, end-within, position-within, volume-within, rates-within}
 
 pub demand1 : Demand1
-unfolding setUpCall setUp setUpCheck cipherCall cipher cipherCheck encipherVolumeCall encipherVolume moveCall move moveCheck endOf writeCall write checkpointLengthCall checkpointLength recoverCall recover recoverCheck loadCall load loadCheck spentCall spent writeVolumeCall writeVolume readVolumeCall readVolume volumeDutyCall volumeDuty
+unfolding setUpCall setUp setUpCheck cipherCall cipher cipherCheck encipherVolumeCall encipherVolume moveCall move moveCheck endOf writeCall write checkpointLengthCall checkpointLength recoverCall recover recoverCheck loadCall load loadCheck spentCall spent writeVolumeCall writeVolume readVolumeCall readVolume volumeDutyCall volumeDuty loadRatesCall
 demand1 = record {
   of-set-up = λ h code key iv area.
       answers _ (setUp code key iv area)
@@ -100,4 +101,5 @@ demand1 = record {
   of-volume-duty = λ rates string.
       answers _ (volumeDuty rates string)
       (then-line (entriesIn string) _ (volume-within first (after first) (after (after first)) string) λ entries. by-none);
+  of-load-rates = λ inUse string. answers inUse (loadRates string) (rates-within first (after first) string);
 }

@@ -20,6 +20,7 @@ pub mod HeadMark
 pub mod ShiftVolume
 pub mod ComponentDuty
 pub mod ReadingEffect
+pub mod RefineryRates
 pub mod Demand3
 pub mod CheckpointLength
 pub mod Refusal12

@@ -16,7 +16,8 @@ use Rattle.volume.specs.Volume.{entryString, entriesString, volumeString}
 use Rattle.volume.specs.Calls.{readValue, readEntry, readEntries, entriesIn}
 use Rattle.volume.proofs.Ranges.{volume-in-range}
 use Rattle.volume.proofs.Undo.{volume-back, volume-bytes}
-use Rattle.duty.specs.Duty.{ourRates, rateOf, entryDuty, entriesDuty}
+use Rattle.rates.specs.Rates.{ourRates, rateOf}
+use Rattle.duty.specs.Duty.{entryDuty, entriesDuty}
 use Rattle.duty.specs.Calls.{volumeDuty}
 use Rattle.theorems.specs.ShiftVolume.{InRange, AllInRange}
 use Rattle.theorems.specs.ReadingEffect.{withRatio, distance, roundedUp, mostMoved, thousandLitres, oneLitre, ReadingEffect}

@@ -7,7 +7,7 @@ use mathlib.Core.Logic.{inl, inr}
 use Prim.Native.Nat.{ℕ, zero, suc}
 use native.Mathlib.Omega.{arith}
 use borrow.Author.Tests.{eq-eqb}
-use lib.Dec.{eqb, leb}
+use lib.Dec.{eqb, leb, ltb}
 use lib.IntN.{ℤ, pos, negsuc}
 use lib.ListN.{length}
 use Rattle.cipher.specs.Numbers.{byCode, areaLength}
@@ -17,6 +17,7 @@ use Rattle.setup.specs.SetUp.{Undone}
 use Rattle.varint.specs.Number.{Reading, is, ended, malformed, readNumber}
 use Rattle.volume.specs.Volume.{Range, inRange, countRange, minutesRange, litresRange, ratioRange, productRange, mostGroups as groups}
 use Rattle.volume.specs.Calls.{numberRead, readValue, readEntry, readEntries, isEmpty, entriesIn}
+use Rattle.rates.specs.Calls.{pairCountRange, rateRange, refusedAs24, readPair, readPairs, pairsIn, loadRates}
 use Rattle.laws.specs.Result.{Result, refused, accepted, outcome, _>>=_, _>>_, refuse_unless_, refuse_without_}
 use Rattle.conditions.specs.Limit.{limit}
 use Rattle.conditions.specs.Conditions.{ready, readyWithWord, headCheck, within, foundOr12, positionRead}
@@ -127,6 +128,31 @@ module _ {numbers : List ℕ} where
         then-line (readValue countRange string) _ (value-within countRange string) λ count.
         then-line (readEntries (count .value) (count .rest)) _ (entries-within (count .value) (count .rest)) λ read.
         line-unless 16 (isEmpty (read .rest)) _ ends by-none
+
+  -- ── conditions of a table of rates ──
+
+  module _ (one : List·Memᴰ 24 numbers) (order : List·Memᴰ 25 numbers) where
+    as24-within : {A : Type 0} (r : Result A) → Within numbers (refusedAs24 r)
+    as24-within (refused n) = by-one one
+    as24-within (accepted a) = by-none
+
+    pairs-within : (n last : ℕ) (string : List ℕ) → Within numbers (readPairs n last string)
+    unfolding readPairs readPair
+    pairs-within zero last string = by-none
+    pairs-within (suc n) last string =
+        then-line (readPair last string) _
+        (then-line (refusedAs24 (readValue productRange string)) _ (as24-within (readValue productRange string)) λ product.
+        line-unless 25 (ltb last (product .value)) _ order
+        (then-line (refusedAs24 (readValue rateRange (product .rest))) _ (as24-within (readValue rateRange (product .rest))) λ rate. by-none)) λ first.
+        then-line (readPairs n (first .pair .product) (first .rest)) _ (pairs-within n (first .pair .product) (first .rest)) λ others. by-none
+
+    pub rates-within : (string : List ℕ) → Within numbers (loadRates string)
+    unfolding loadRates pairsIn
+    rates-within string =
+        then-line (pairsIn string) _
+        (then-line (refusedAs24 (readValue pairCountRange string)) _ (as24-within (readValue pairCountRange string)) λ count.
+        then-line (readPairs (count .value) 0 (count .rest)) _ (pairs-within (count .value) 0 (count .rest)) λ read.
+        line-unless 24 (isEmpty (read .rest)) _ one by-none) λ pairs. by-none
 
 -- ── a number that is not among them is not the refusal ──
 

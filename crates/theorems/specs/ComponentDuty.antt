@@ -1,5 +1,5 @@
--- Document 02 (e), duty on the blended part: what an entry and a volume owe, the refusals, and the greatest duty of any volume. Where a clause names
--- `rates`, it is said of every table of rates.
+-- Document 02 (e), duty on the blended part: what an entry and a volume owe, the refusals, and the greatest duty of any volume under our rates. Where
+-- a clause names `rates`, it is said of every table of rates.
 use mathlib.Core.Path.{_≡_}
 use mathlib.Core.List.{List, [], _∷_, _++_, map}
 use mathlib.Core.Logic.{_↔_}
@@ -10,11 +10,12 @@ use Rattle.word.specs.Bytes.{AllBytes}
 use Rattle.volume.specs.declared.Entry.{Entry}
 use Rattle.volume.specs.Volume.{volumeString}
 use Rattle.volume.specs.Calls.{readVolume}
-use Rattle.duty.specs.Duty.{ourRates, rateOf, entryDuty, entriesDuty}
+use Rattle.rates.specs.Rates.{ourRates, rateOf}
+use Rattle.duty.specs.Duty.{entryDuty, entriesDuty}
 use Rattle.duty.specs.Calls.{volumeDuty}
 use Rattle.theorems.specs.ShiftVolume.{Volume}
 
--- the greatest duty of any volume, in cents
+-- the greatest duty of any volume under our rates, in cents
 abbrev pub mostDuty : ℕ
 mostDuty = 24000000000
 
@@ -48,8 +49,8 @@ pub record ComponentDuty : Type 0 where
   pub never-8 : (rates string : List ℕ) → volumeDuty rates string ≡ refused 8 → ⊥
   pub accepted-where-8 :
       (rates string list : List ℕ) → readVolume string list ≡ refused 8 → (cents : ℕ) × (volumeDuty rates string ≡ accepted cents)
-  -- No volume owes more than `mostDuty`; 2,000 entries of 100,000 litres at 10,000 of product 1 owe as much; and the answer's 64 bits hold it, so that
-  -- no sum wraps.
+  -- Under our rates no volume owes more than `mostDuty`; 2,000 entries of 100,000 litres at 10,000 of product 1 owe as much; and the answer's 64 bits
+  -- hold it, so that no sum wraps.
   pub at-most : (string : List ℕ) (cents : ℕ) → volumeDuty ourRates string ≡ accepted cents → cents ≤ mostDuty
   pub reached :
       volumeDuty ourRates (volumeString (replicate 2000 (record { minutes = 0; litres = 100000; ratio = 10000; product = 1 }))) ≡ accepted mostDuty

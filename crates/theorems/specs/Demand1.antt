@@ -1,5 +1,5 @@
 -- Demand 1: every call, for all bytes, lengths, positions and tables, is accepted with 0, or answers one of its own refusal numbers and leaves
--- head, tables and every lent byte as they were.
+-- head, tables and every lent byte as they were; loading leaves the table of rates in use.
 use mathlib.Core.Path.{_≡_}
 use mathlib.Core.List.{List, [], _∷_, List·Memᴰ}
 use mathlib.Core.Logic.{_⊎_}
@@ -7,6 +7,7 @@ use Prim.Native.Nat.{ℕ}
 use lib.IntN.{ℤ}
 use lib.ListN.{replicate}
 use Rattle.volume.specs.Calls.{readVolume, readVolumeCall, writeVolume, writeVolumeCall}
+use Rattle.rates.specs.Calls.{loadRates, loadRatesCall}
 use Rattle.duty.specs.Calls.{volumeDuty, volumeDutyCall}
 use Rattle.laws.specs.Result.{Result, refused, accepted, Outcome}
 use Rattle.engine.specs.declared.Head.{Head}
@@ -20,8 +21,8 @@ module _ {A : Type 0} where
     pub result-is : result ≡ accepted new
     pub outcome-is : o ≡ record { refusal = 0; value = new }
 
-  -- the call is refused: its refusal is one of these numbers, and what it leaves is `old`: head, area and lent bytes as they were, and 0 for what the
-  -- call returns
+  -- the call is refused: its refusal is one of these numbers, and what it leaves is `old`: head, area, table of rates in use and lent bytes as they
+  -- were, and 0 for what the call returns
   pub record Refused (numbers : List ℕ) (old : A) (result : Result A) (o : Outcome A) : Type 0 where
     pub number : ℕ
     pub one-of : List·Memᴰ number numbers
@@ -70,3 +71,5 @@ pub record Demand1 : Type 0 where
       → AcceptedOrRefused (16 ∷ 14 ∷ 15 ∷ 16 ∷ 8 ∷ []) (record { count = 0; list = list }) (readVolume string list) (readVolumeCall string list)
   pub of-volume-duty :
       (rates string : List ℕ) → AcceptedOrRefused (16 ∷ 14 ∷ 15 ∷ 16 ∷ []) 0 (volumeDuty rates string) (volumeDutyCall rates string)
+  pub of-load-rates :
+      (inUse string : List ℕ) → AcceptedOrRefused (24 ∷ 25 ∷ 24 ∷ []) inUse (loadRates string) (loadRatesCall inUse string)

@@ -15,3 +15,4 @@ pub mod HeadMark
 pub mod ShiftVolume
 pub mod ComponentDuty
 pub mod ReadingEffect
+pub mod RefineryRates

@@ -12,7 +12,8 @@ use Rattle.word.specs.Bytes.{AllBytes}
 use Rattle.volume.specs.declared.Entry.{Entry}
 use Rattle.volume.specs.Volume.{volumeString}
 use Rattle.volume.specs.Calls.{entriesIn}
-use Rattle.duty.specs.Duty.{ourRates, rateOf, entryDuty}
+use Rattle.rates.specs.Rates.{ourRates, rateOf}
+use Rattle.duty.specs.Duty.{entryDuty}
 use Rattle.duty.specs.Calls.{volumeDuty}
 
 -- the entry with this ratio, and its three other numbers as they are
@@ -39,6 +40,16 @@ thousandLitres = record { minutes = 0; litres = 1000; ratio = 525; product = 4 }
 abbrev pub oneLitre : Entry
 oneLitre = record { minutes = 0; litres = 1; ratio = 665; product = 7 }
 
+-- 'the total moves by no more than litres times rate times d over 10,000, rounded up, for that entry': for every two volumes whose entries are the
+-- same but for the ratio of entry k, the first being entry 0, the duty call accepts both, and its two answers differ by no more than the litres of
+-- that entry times the rate of its product times the difference of the two ratios over 10,000, rounded up.
+abbrev pub MovesAtMost : (rates : List ℕ) → Type 0
+MovesAtMost rates =
+    (string other : List ℕ) (entries : List Entry) (k ratio : ℕ) (e : Entry)
+    → entriesIn string ≡ accepted entries → getElem? entries k ≡ some e → entriesIn other ≡ accepted (set entries k (withRatio e ratio))
+    → (cents : ℕ) × (otherCents : ℕ) × (volumeDuty rates string ≡ accepted cents) × (volumeDuty rates other ≡ accepted otherCents)
+    × (distance cents otherCents ≤ mostMoved rates e (distance (e .ratio) ratio))
+
 pub record ReadingEffect : Type 0 where
   -- 'one entry's ratio changes .. and nothing else changes': of the entry's four numbers only the ratio is another.
   pub only-ratio :
@@ -50,14 +61,8 @@ pub record ReadingEffect : Type 0 where
   pub distance-down : (a d : ℕ) → distance (a + d) a ≡ d
   -- 'over 10,000, rounded up': the least number of cents of which 10,000 times is not less than the amount.
   pub rounded-up : (amount cents : ℕ) → (roundedUp amount ≤ cents) ↔ (amount ≤ 10000 * cents)
-  -- 'the total moves by no more than litres times rate times d over 10,000, rounded up, for that entry': for every two volumes whose entries are the
-  -- same but for the ratio of entry k, the first being entry 0, the duty call accepts both, and its two answers differ by no more than the litres of
-  -- that entry times the rate of its product times the difference of the two ratios over 10,000, rounded up.
-  pub moves-at-most :
-      (rates string other : List ℕ) (entries : List Entry) (k ratio : ℕ) (e : Entry)
-      → entriesIn string ≡ accepted entries → getElem? entries k ≡ some e → entriesIn other ≡ accepted (set entries k (withRatio e ratio))
-      → (cents : ℕ) × (otherCents : ℕ) × (volumeDuty rates string ≡ accepted cents) × (volumeDuty rates other ≡ accepted otherCents)
-      × (distance cents otherCents ≤ mostMoved rates e (distance (e .ratio) ratio))
+  -- The bound holds under every table of rates.
+  pub moves-at-most : (rates : List ℕ) → MovesAtMost rates
   -- 'for every volume': for every volume, every entry of it and every ratio from 0 to 10,000 there is a volume whose entries are the same but for that
   -- ratio in that entry.
   pub every-ratio :

@@ -8,6 +8,7 @@ use lib.ListN.{length, getD, drop}
 use lib.Seq.{drop-cons, drop-length}
 use Rattle.laws.specs.Result.{Result, refused, accepted, _>>=_, _>>_, refuse_unless_}
 use Rattle.laws.proofs.Results.{block-in-block, same-lines, after-line, no-refusal, accepted-one}
+use Rattle.laws.proofs.Turns as Turns
 use Rattle.volume.specs.declared.Entry.{Entry}
 use Rattle.volume.specs.Volume.{numbersOf}
 use Rattle.volume.specs.Calls.{EntryRead, EntriesRead, readEntry, readEntries, isEmpty}
@@ -32,6 +33,11 @@ entries-suc n string = refl
 abbrev pub after : {A : Type 0} → (List Entry → A) → Entry → List Entry → A
 after value e entries = value (e ∷ entries)
 
+-- what a loop over the entries has come to: the bytes that are left, and the value of the entries that are left
+record Left (A : Type 0) : Type 0 where
+  rest : List ℕ
+  value : List Entry → A
+
 module _ {A : Type 0} where
   only-zero : (value : List Entry → A) (string : List ℕ) → entriesOnly value 0 string ≡ ((refuse 16 unless isEmpty string) >> accepted (value []))
   unfolding entriesOnly
@@ -49,27 +55,35 @@ module _ {A : Type 0} where
   unfolding entriesOnly
   only-same value other n string h = same-lines (readEntries n string) _ _ (λ read. rw (h (read .entries)))
 
-  -- what a loop over the entries keeps: from where it has come it finds, with `left` for the value of those that are left, what it finds from the start
+  abbrev from : List ℕ → (List Entry → A) → Left A
+  from rest value = record { rest = rest; value = value }
+
+  abbrev turn : Left A → Result (Left A)
+  turn s = readEntry (s .rest) >>= λ first. accepted (from (first .rest) (after (s .value) (first .entry)))
+
+  abbrev all : ℕ → Left A → Result A
+  all n s = entriesOnly (s .value) n (s .rest)
+
+  all-suc : (n : ℕ) (s : Left A) → all (suc n) s ≡ (turn s >>= all n)
+  all-suc n s = only-suc (s .value) n (s .rest) ∙ sym (block-in-block (readEntry (s .rest)) _ (all n))
+
+  -- from where the loop has come it finds, with `left` for the value of the entries that are left, what it finds from the start
   module _ (value : List Entry → A) (n : ℕ) (whole : List ℕ) where
     abbrev pub Comes : ℕ → List ℕ → (left : List Entry → A) → Type 0
     Comes k rest left = entriesOnly value n whole ≡ entriesOnly left (n - k) rest
 
     pub only-starts : Comes 0 whole value
-    only-starts = let e : n - 0 ≡ n = omega arith in rw e
+    only-starts = Turns.starts turn all all-suc n (from whole value)
 
     module _ (k : ℕ) (rest : List ℕ) (left : List Entry → A) (come : Comes k rest left) where
       pub only-turns : {first : EntryRead} → k < n → readEntry rest ≡ accepted first → Comes (k + 1) (first .rest) (after left (first .entry))
-      only-turns {first} l r =
-          let m : n - k ≡ suc (n - (k + 1)) = omega arith in
-          come ∙ ap (λ (j : ℕ). entriesOnly left j rest) m ∙ only-suc left (n - (k + 1)) rest ∙ rw r
+      only-turns l r = Turns.turns turn all all-suc n (from whole value) k (from rest left) come l (rw r)
 
       pub only-refused : {m : ℕ} → k < n → readEntry rest ≡ refused m → entriesOnly value n whole ≡ refused m
-      only-refused {m} l r =
-          let e : n - k ≡ suc (n - (k + 1)) = omega arith in
-          come ∙ ap (λ (j : ℕ). entriesOnly left j rest) e ∙ only-suc left (n - (k + 1)) rest ∙ rw r
+      only-refused l r = Turns.refuses turn all all-suc n (from whole value) k (from rest left) come l (rw r)
 
       pub only-ends : n ≤ k → entriesOnly value n whole ≡ ((refuse 16 unless isEmpty rest) >> accepted (left []))
-      only-ends l = let e : n - k ≡ 0 = omega arith in come ∙ ap (λ (j : ℕ). entriesOnly left j rest) e ∙ only-zero left rest
+      only-ends l = Turns.ends turn all all-suc n (from whole value) k (from rest left) come l ∙ only-zero left rest
 
 -- whether a place is at the string's end
 pub at-end : (string : List ℕ) (at : ℕ) → at ≡ length string → isEmpty (drop at string) ≡ true

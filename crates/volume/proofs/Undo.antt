@@ -29,7 +29,7 @@ use Rattle.volume.proofs.Shows.{read-shows, read-accepts, write-shows, 
 -- ---- what is written is read back
 
 module _ (range : Range) (small : range .most < 128 ^ 3) where
-  value-back : (n : ℕ) (rest : List ℕ) → inRange range n ≡ true → readValue range (number n ++ rest) ≡ accepted (record { value = n; rest = rest })
+  pub value-back : (n : ℕ) (rest : List ℕ) → inRange range n ≡ true → readValue range (number n ++ rest) ≡ accepted (record { value = n; rest = rest })
   unfolding readValue
   value-back n rest h =
       let l : n < 128 ^ 3 = omega (arith, range-most range n h) in
@@ -112,7 +112,7 @@ after-below : (a b : List ℕ) → ((i : ℕ) → getD (a ++ b) i 0 < 256) → (
 after-below [] b h = h
 after-below (x ∷ a) b h = after-below a b (λ i. h (suc i))
 
-abbrev Bytes : List ℕ → Type 0
+abbrev pub Bytes : List ℕ → Type 0
 Bytes s = (i : ℕ) → getD s i 0 < 256
 
 -- a value that was read: the string begins with it
@@ -135,7 +135,7 @@ value-number range string v e =
     after-line (numberRead (readNumber mostGroups string)) _ (sym (value-lines range string) ∙ e) (λ n q _. no-refusal q) (λ read p q.
     number-was string (readNumber mostGroups string) v (p ∙ ap accepted (ranged-value (inRange range (read .value)) read v q .1)))
 
-value-was : (range : Range) (string : List ℕ) (v : ValueRead) → Bytes string → readValue range string ≡ accepted v → Written string v
+pub value-was : (range : Range) (string : List ℕ) (v : ValueRead) → Bytes string → readValue range string ≡ accepted v → Written string v
 value-was range string v bytes e =
     let w = written-read mostGroups (omega arith) string (v .value) (v .rest) bytes (value-number range string v e) in
     record {

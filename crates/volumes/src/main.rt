@@ -1,12 +1,14 @@
-// The cases of document 02 (d), the shift volume, (e), the duty on it, and (f), the effect of one ratio on the duty: reading, writing, enciphering and
-// the duty, a line each, `ok` or `wrong`.
+// The cases of document 02 (d), the shift volume, (e), the duty on it, (f), the effect of one ratio on the duty, and (n), the refinery's own rates:
+// reading, writing, enciphering, the duty and the loading of rates, a line each, `ok` or `wrong`.
 use table::DUTY;
+use table::RATES;
 use table::READ;
 use table::WRITE;
 
 mod duties;
 mod enciphering;
 mod lent;
+mod loading;
 mod many;
 mod table;
 
@@ -288,6 +290,126 @@ product 9: 01 00 e8 07 8d 04 09: gets 15 owes 0
     );
 }
 
+// Tables that load: of no pairs, of all eight, with gaps; and rates at both ends of their range and on both sides of where their groups grow in number.
+fn load_rates() {
+    table::each(
+        RATES,
+        b"\
+no pairs: 00: gets 0, 0 0 0 0 0 0 0 0
+all eight: 08 01 01 02 02 03 03 04 04 05 05 06 06 07 07 08 08: gets 0, 1 2 3 4 5 6 7 8
+our rates: 08 01 78 02 5f 03 5f 04 3c 05 28 06 28 07 0f 08 00: gets 0, 120 95 95 60 40 40 15 0
+eight rates of 65535: 08 01 ff ff 03 02 ff ff 03 03 ff ff 03 04 ff ff 03 05 ff ff 03 06 ff ff 03 07 ff ff 03 08 ff ff 03: gets 0, 65535 65535 65535 65535 65535 65535 65535 65535
+product 1: 01 01 07: gets 0, 7 0 0 0 0 0 0 0
+product 4: 01 04 07: gets 0, 0 0 0 7 0 0 0 0
+product 8: 01 08 07: gets 0, 0 0 0 0 0 0 0 7
+products 2 and 4: 02 02 c8 01 04 46: gets 0, 0 200 0 70 0 0 0 0
+products 1 and 8: 02 01 05 08 06: gets 0, 5 0 0 0 0 0 0 6
+products 7 and 8: 02 07 05 08 06: gets 0, 0 0 0 0 0 0 5 6
+products 1, 3, 5 and 7: 04 01 0b 03 0d 05 0f 07 11: gets 0, 11 0 13 0 15 0 17 0
+products 2, 4, 6 and 8: 04 02 0c 04 0e 06 10 08 12: gets 0, 0 12 0 14 0 16 0 18
+all but product 5: 07 01 01 02 02 03 03 04 04 06 06 07 07 08 08: gets 0, 1 2 3 4 0 6 7 8
+rate 0: 01 03 00: gets 0, 0 0 0 0 0 0 0 0
+rate 1: 01 03 01: gets 0, 0 0 1 0 0 0 0 0
+rate 127: 01 03 7f: gets 0, 0 0 127 0 0 0 0 0
+rate 128: 01 03 80 01: gets 0, 0 0 128 0 0 0 0 0
+rate 16383: 01 03 ff 7f: gets 0, 0 0 16383 0 0 0 0 0
+rate 16384: 01 03 80 80 01: gets 0, 0 0 16384 0 0 0 0 0
+rate 65535: 01 03 ff ff 03: gets 0, 0 0 65535 0 0 0 0 0
+",
+    );
+}
+
+// Numbers out of their range, not in shortest form, or with a third group that announces another; products that are not above the one before; bytes
+// that are missing or left over.
+fn load_faults() {
+    table::each(
+        RATES,
+        b"\
+count 9 and nothing more: 09: gets 24
+count 9 and eight pairs: 09 01 01 02 02 03 03 04 04 05 05 06 06 07 07 08 08: gets 24
+count 128: 80 01: gets 24
+count 2097151: ff ff 7f: gets 24
+product 0: 01 00 05: gets 24
+product 9: 01 09 05: gets 24
+product 128: 01 80 01 05: gets 24
+product 2097151: 01 ff ff 7f 05: gets 24
+product 0 after 1: 02 01 05 00 05: gets 24
+product 0 after 4: 02 04 05 00 05: gets 24
+product 9 after 4: 02 04 05 09 05: gets 24
+product 9 after 8: 02 08 05 09 05: gets 24
+product 0 after two: 03 04 05 06 05 00 05: gets 24
+rate 65536: 01 03 80 80 04: gets 24
+rate 65536 after a pair: 02 01 05 03 80 80 04: gets 24
+rate 2097151: 01 03 ff ff 7f: gets 24
+product 1 after 1: 02 01 05 01 05: gets 25
+product 4 after 4: 02 04 05 04 05: gets 25
+product 4 after 4 with another rate: 02 04 05 04 06: gets 25
+product 8 after 8: 02 08 05 08 05: gets 25
+product 3 after 4: 02 04 05 03 05: gets 25
+product 1 after 8: 02 08 05 01 05: gets 25
+product 2 after 1 and 2: 03 01 05 02 05 02 05: gets 25
+product 1 after 1 and 2: 03 01 05 02 05 01 05: gets 25
+product 8 after all eight but 7, twice: 08 01 01 02 02 03 03 04 04 05 05 06 06 08 08 08 08: gets 25
+count 0 in two groups: 80 00: gets 24
+count 1 in two groups: 81 00 03 05: gets 24
+count 9 in two groups: 89 00: gets 24
+product 3 in two groups: 01 83 00 05: gets 24
+product 3 in three groups: 01 83 80 00 05: gets 24
+product 3 in two groups after 4: 02 04 05 83 00 05: gets 24
+product 4 in two groups after 4: 02 04 05 84 00 05: gets 24
+rate 5 in two groups: 01 03 85 00: gets 24
+rate 65535 in four groups: 01 03 ff ff 83 00: gets 24
+rate 65536 in four groups: 01 03 80 80 84 00: gets 24
+count, third group announces another: 81 80 80 00 03 05: gets 24
+count, third group announces another, at the end: 80 80 80: gets 24
+product, third group announces another: 01 83 80 80 00 05: gets 24
+product, third group announces another, at the end: 01 83 80 80: gets 24
+rate, third group announces another: 01 03 85 80 80 00: gets 24
+rate, third group announces another, at the end: 01 03 85 80 80: gets 24
+cut at 0:: gets 24
+cut at 1: 02: gets 24
+cut at 2: 02 02: gets 24
+cut at 3: 02 02 c8: gets 24
+cut at 4: 02 02 c8 01: gets 24
+cut at 5: 02 02 c8 01 04: gets 24
+count cut after a group: 80: gets 24
+count cut after two groups: 80 80: gets 24
+product cut after a group: 01 83: gets 24
+rate cut after two groups: 01 03 85 80: gets 24
+count 8 and seven pairs: 08 01 01 02 02 03 03 04 04 05 05 06 06 07 07: gets 24
+a byte after no pairs: 00 00: gets 24
+a byte after a pair: 01 03 05 00: gets 24
+a pair after a pair: 01 03 05 04 05: gets 24
+a byte after two pairs: 02 02 c8 01 04 46 ff: gets 24
+a byte after all eight: 08 01 01 02 02 03 03 04 04 05 05 06 06 07 07 08 08 00: gets 24
+",
+    );
+}
+
+// Two faults: the first in reading order gives the refusal number.
+fn load_order() {
+    table::each(
+        RATES,
+        b"\
+count 9, product 4 after 4: 09 04 05 04 05: gets 24
+count in two groups, product 4 after 4: 82 00 04 05 04 05: gets 24
+product 9, then 4 after 4: 03 09 05 04 05 04 05: gets 24
+product 4 after 4, then 9: 03 04 05 04 05 09 05: gets 25
+rate 65536, product 3 after 4: 02 04 80 80 04 03 05: gets 24
+product 3 after 4, rate 65536: 02 04 05 03 80 80 04: gets 25
+rate in two groups, product 3 after 4: 02 04 85 00 03 05: gets 24
+product 3 after 4, rate in two groups: 02 04 05 03 85 00: gets 25
+product 3 after 4 and nothing more: 02 04 05 03: gets 25
+product 3 after 4, rate cut: 02 04 05 03 85: gets 25
+product 3 after 4, third pair missing: 03 04 05 03 05: gets 25
+third pair missing: 03 03 05 04 05: gets 24
+product 3 after 4, a byte after the pairs: 02 04 05 03 05 00: gets 25
+product 0 after 4 and nothing more: 02 04 05 00: gets 24
+product 9 after 4, a byte after the pairs: 02 04 05 09 05 00: gets 24
+",
+    );
+}
+
 // Enciphering from 0, from inside a word, on both sides of the mark, of no entry, and up to the limit. Then each refusal of cipher, where the volume
 // is sound, and each of the volume's before it; and cipher's own, each before the next.
 fn encipher(code: u32) {
@@ -345,6 +467,9 @@ fn main() {
     many::most();
     many::over();
     duty();
+    load_rates();
+    load_faults();
+    load_order();
     encipher(1);
     encipher(2);
 }

@@ -2,10 +2,12 @@
 ghost use Prim.Native.Nat.{_≤_};
 ghost use lib.ListN.{length};
 use crate::duties::owes;
+use crate::duties::owes_under;
 use crate::lent::fill_bytes;
 use crate::lent::fill_list;
 use crate::table::reads;
 use crate::table::writes;
+use rates::Rates;
 
 // A list of 2,000 entries of these four numbers, and its volume: the count, and then these eight bytes, which are one entry or two, over and over; and
 // its duty. A byte more is lent than the volume has, and an element more than its entries have.
@@ -28,7 +30,7 @@ fn alike(
     owes(case, string, 0, cents);
 }
 
-// The smallest entry has 4 bytes and the largest 8, and the count of 2,000 has 2. No volume owes more than the third.
+// The smallest entry has 4 bytes and the largest 8, and the count of 2,000 has 2. No volume owes more than the third, under our rates and under any.
 pub fn most() {
     let mut list = [0u32; 8000];
     let mut other = [0u32; 8000];
@@ -51,6 +53,15 @@ pub fn most() {
         &mut same_length,
         one_of_1,
         24_000_000_000,
+    );
+    owes_under(
+        Rates {
+            cents: [65_535, 0, 0, 0, 0, 0, 0, 0],
+        },
+        b"2000 largest of product 1 at rate 65535:",
+        &same_length,
+        0,
+        13_107_000_000_000,
     );
 }
 

@@ -1,7 +1,7 @@
-// Tables of cases, in text. A line is a case: its name up to `:`, the bytes of a volume in hexadecimal, each after a space, up to `:`, and numbers in
-// other text. For reading and writing these are the size of what is lent, the refusal number, which is 0 where the case is accepted, and the numbers
-// of entries. A refused case has no entries to read, or no bytes to write. For the duty they are the refusal number and the cents. A number
-// is below 2^32.
+// Tables of cases, in text. A line is a case: its name up to `:`, the bytes of a volume, or of a table of rates, in hexadecimal, each after a space,
+// up to `:`, and numbers in other text. For reading and writing these are the size of what is lent, the refusal number, which is 0 where the case is
+// accepted, and the numbers of entries. A refused case has no entries to read, or no bytes to write. For the duty they are the refusal number and the
+// cents, for rates the refusal number and, where it is 0, the eight rates. A number is below 2^32.
 ghost use Prim.Native.Nat.{_≤_};
 ghost use lib.ListN.{length};
 use crate::duties::owes;
@@ -14,6 +14,7 @@ use crate::lent::fill_bytes;
 use crate::lent::fill_list;
 use crate::lent::line;
 use crate::lent::list_is;
+use crate::loading::loads;
 
 // What the cases of a table call. Any other number is the cipher code by which its volumes are enciphered.
 pub const READ: u32 = 0;
@@ -21,6 +22,8 @@ pub const READ: u32 = 0;
 pub const WRITE: u32 = 3;
 
 pub const DUTY: u32 = 4;
+
+pub const RATES: u32 = 5;
 
 // Whether reading a string into a list gives this refusal number and these entries.
 pub fn read_is(string: &[u8], list: &mut [u32], refusal: u64, entries: &[u32]) -> bool {
@@ -152,6 +155,10 @@ pub fn wide(n: u32) -> u64 {
 
 // Runs a case with the bytes and the numbers of its line.
 fn run(call: u32, case: &[u8], string: &[u8], numbers: &[u32]) {
+    if call == RATES {
+        loads(case, string, numbers);
+        return;
+    }
     if numbers.len() < 2 {
         line(b"no numbers in ", case, 0, false);
         return;
@@ -173,7 +180,7 @@ fn run(call: u32, case: &[u8], string: &[u8], numbers: &[u32]) {
 
 // Runs the case of a line.
 fn run_line(call: u32, case: &[u8], bytes: &[u8], numbers: &[u8]) {
-    let mut string = [0u8; 32];
+    let mut string = [0u8; 40];
     let mut list = [0u32; 16];
     let n = bytes_in(bytes, &mut string);
     let m = numbers_in(numbers, &mut list);

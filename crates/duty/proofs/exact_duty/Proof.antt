@@ -3,26 +3,27 @@ use mathlib.Core.Path.{refl}
 use native.Mathlib.Nat.{mul-le-mul}
 use native.Mathlib.Omega.{arith}
 use borrow.Author.Needs.{needs}
-use Rattle.duty.specs.Duty.{ourRates}
-use Rattle.duty.proofs.Most.{exact-most, our-rates-most}
+use denote.Ref.{now}
+use Rattle.duty.proofs.Most.{exact-most}
 use Rattle.duty.proofs.exact_duty.Statement.{statement}
 use Rattle.duty.proofs.exact_duty.Tie as tie
 
 mul-result : tie.Need-mul-result
 mul-result c =
-    let p = c .before .before .pre in
-    omega (arith, mul-le-mul (p .0) (p .1))
+    let p = c .before .before .before .pre in
+    omega (arith, mul-le-mul (p .1) (p .2))
 
 mul-result-2 : tie.Need-mul-result-2
 mul-result-2 c =
-    let p = c .before .before .before .pre in
-    omega (arith, mul-le-mul (mul-le-mul (p .0) (p .1)) (c .rate-of .ensures .1))
+    let p = c .before .before .before .before .pre in
+    omega (arith, mul-le-mul (mul-le-mul (p .1) (p .2)) (c .rate-of .ensures .1))
 
 returns : tie.Need-returns
 returns c =
-    let e = c .before .before .before .args .entry in
-    let p = c .before .before .before .pre in
-    rw (c .rate-of .ensures .0) (refl, exact-most 120 ourRates our-rates-most e (p .0) (p .1))
+    let a = c .before .before .before .before .args in
+    let p = c .before .before .before .before .pre in
+    let r = c .rate-of .ensures in
+    rw (r .0) (refl, exact-most 65535 (now (a .table)) (a .entry) (p .1) (p .2) (rw (r .0) at (r .1)))
 
 pub exact-duty-spec : {M : Type 1} → statement M
 exact-duty-spec =

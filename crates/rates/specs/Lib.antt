@@ -1,0 +1,4 @@
+pub mod Rates
+pub mod Table
+pub mod Calls
+pub mod Found
