@@ -49,14 +49,19 @@ loads-iff string rates bytes = (
 
 -- ── the rates ──
 
-with-pair : (pairs : List Pair) (pair : Pair) → InOrder 0 pairs → List·Memᴰ pair pairs → rateOf (ratesOf pairs) (pair .product) ≡ pair .rate
-with-pair pairs pair h m =
-    let a = pair-above 0 pairs pair h m in
-    rate-in-table pairs (pair .product) (a .1) (a .2) ∙ among-pair 0 pairs pair h m
+module _ (string rates : List ℕ) (pairs : List Pair) where
+  -- the rates of a table that loads are those of its pairs
+  rates-are : Table string pairs → loadRates string ≡ accepted rates → (product : ℕ) → rateOf rates product ≡ rateOf (ratesOf pairs) product
+  rates-are t e product = ap (λ (r : List ℕ). rateOf r product) (accepted-one e (pairs-load string pairs t))
 
-without-pair : (pairs : List Pair) (product : ℕ) → ((pair : Pair) → List·Memᴰ pair pairs → pair .product ≡ product → ⊥)
-    → rateOf (ratesOf pairs) product ≡ 0
-without-pair pairs product h = each-rate (λ rate. rate ≡ 0) pairs product refl (among-none pairs product h)
+  with-pair : (pair : Pair) → Table string pairs → loadRates string ≡ accepted rates → List·Memᴰ pair pairs → rateOf rates (pair .product) ≡ pair .rate
+  with-pair pair t e m =
+      let a = pair-above 0 pairs pair (t .in-order) m in
+      rates-are t e (pair .product) ∙ rate-in-table pairs (pair .product) (a .1) (a .2) ∙ among-pair 0 pairs pair (t .in-order) m
+
+  without-pair : (product : ℕ) → Table string pairs → loadRates string ≡ accepted rates
+      → ((pair : Pair) → List·Memᴰ pair pairs → pair .product ≡ product → ⊥) → rateOf rates product ≡ 0
+  without-pair product t e h = rates-are t e product ∙ each-rate (λ rate. rate ≡ 0) pairs product refl (among-none pairs product h)
 
 rates-in : (string rates : List ℕ) → loadRates string ≡ accepted rates → (length rates ≡ 8) × ((product : ℕ) → rateOf rates product ≤ 65535)
 rates-in string rates e =

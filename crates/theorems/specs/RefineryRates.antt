@@ -50,11 +50,13 @@ pub record RefineryRates : Type 0 where
   pub loads-iff :
       (string rates : List ℕ) → AllBytes string
       → (loadRates string ≡ accepted rates) ↔ ((pairs : List Pair) × Table string pairs × (ratesOf pairs ≡ rates))
-  -- The product of a pair has the rate of the pair. 'A product without a pair has rate 0', whatever its rate was in the table before.
+  -- Where the table of these pairs is loaded, the product of a pair has the rate of the pair. 'A product without a pair has rate 0.'
   pub with-pair :
-      (pairs : List Pair) (pair : Pair) → InOrder 0 pairs → List·Memᴰ pair pairs → rateOf (ratesOf pairs) (pair .product) ≡ pair .rate
+      (string rates : List ℕ) (pairs : List Pair) (pair : Pair) → Table string pairs → loadRates string ≡ accepted rates → List·Memᴰ pair pairs
+      → rateOf rates (pair .product) ≡ pair .rate
   pub without-pair :
-      (pairs : List Pair) (product : ℕ) → ((pair : Pair) → List·Memᴰ pair pairs → pair .product ≡ product → ⊥) → rateOf (ratesOf pairs) product ≡ 0
+      (string rates : List ℕ) (pairs : List Pair) (product : ℕ) → Table string pairs → loadRates string ≡ accepted rates
+      → ((pair : Pair) → List·Memᴰ pair pairs → pair .product ≡ product → ⊥) → rateOf rates product ≡ 0
   -- Every table that loads has eight rates, from 0 to 65,535, and every such table can be loaded, ours too.
   pub rates-in :
       (string rates : List ℕ) → loadRates string ≡ accepted rates → (length rates ≡ 8) × ((product : ℕ) → rateOf rates product ≤ 65535)
