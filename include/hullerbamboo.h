@@ -94,8 +94,8 @@ extern "C" {
 /* A refinery's own table of rates, as a string: a count of pairs, 0 to HC_PRODUCTS, then that many pairs, two numbers each and in this order:
  *     product                            1 to HC_PRODUCTS, each above the one of the pair before
  *     rate in cents per litre            0 to 65,535
- * The numbers are in the groups of seven bits of a volume, three at most. A product without a pair has rate 0. HC_RATES_BYTES is the length of the
- * longest string. */
+ * Each number is written as a number of a volume is: in groups of seven bits, in its shortest form, three groups at most. A product without a pair
+ * has rate 0. HC_RATES_BYTES is the length of the longest string. */
 #define HC_PRODUCTS 8
 #define HC_RATES_BYTES 33
 
@@ -150,8 +150,8 @@ struct hc_count {
     uint64_t count;
 };
 
-/* A table of rates: the rate of product p is cents[p - 1], in cents per litre. The table in use is yours, like a head: start with what hc_our_rates
- * returns, and let hc_load_rates replace it. Any 16-bit numbers are a table, also those that you made up. */
+/* A table of rates: the rate of product p is cents[p - 1], in cents per litre. The table in use is yours. Start with what hc_our_rates returns and
+ * not with zeros, under which nothing is owed, and let hc_load_rates replace it. Any eight 16-bit numbers are a table, also those that you made up. */
 struct hc_rates {
     uint16_t cents[HC_PRODUCTS];
 };
@@ -251,6 +251,8 @@ struct hc_rates hc_our_rates(void);
  *     static const uint8_t own[] = {0x02, 0x02, 0xC8, 0x01, 0x04, 0x46}; // two pairs: product 2 at 200 cents, product 4 at 70
  *     struct hc_rates rates = hc_our_rates();
  *     refusal = hc_load_rates(&rates, own, sizeof own);
+ *     if (refusal == HC_OK)
+ *         duty = hc_volume_duty(&rates, volume, volume_bytes);
  */
 uint64_t hc_load_rates(struct hc_rates *rates, const uint8_t *string, size_t string_bytes);
 

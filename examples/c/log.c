@@ -27,7 +27,7 @@ NO_PADDING(hc_length, SIZE(hc_length, refusal) + SIZE(hc_length, length));
 NO_PADDING(hc_words, SIZE(hc_words, refusal) + SIZE(hc_words, key) + SIZE(hc_words, iv));
 NO_PADDING(hc_count, SIZE(hc_count, refusal) + SIZE(hc_count, count));
 NO_PADDING(hc_duty, SIZE(hc_duty, refusal) + SIZE(hc_duty, cents));
-NO_PADDING(hc_rates, HC_PRODUCTS * sizeof(uint16_t));
+NO_PADDING(hc_rates, SIZE(hc_rates, cents));
 NO_PADDING(engine, SIZE(engine, head) + SIZE(engine, area));
 
 static void check(const char *call, uint64_t refusal)
@@ -75,7 +75,8 @@ static void own_rates(const uint8_t *volume, size_t volume_bytes)
     check_same("the table in use", &in_use, &rates, sizeof rates);
     uint64_t order = hc_load_rates(&rates, falling, sizeof falling);
     check_same("the table in use", &in_use, &rates, sizeof rates);
-    printf("a table without its last byte is refused with %" PRIu64 ", a falling product with %" PRIu64 ", and every rate stays\n", missing, order);
+    printf("a table without its last byte is refused with %" PRIu64 ", ", missing);
+    printf("a product below the one before with %" PRIu64 ", and every rate stays\n", order);
 }
 
 /* A shift's entries are written as a volume and enciphered behind what the box has logged; then the box moves back, deciphers the volume and reads it. */
@@ -129,7 +130,8 @@ static void log_shift(void)
     check("volume duty", duty.refusal);
     printf("duty on the first entry alone: %" PRIu64 " cents\n", duty.cents);
 
-    /* Under our rates no volume owes more than HC_MOST_DUTY, and 2,000 such entries owe as much; under any rates HC_MOST_OWN_DUTY. */
+    /* No volume owes more than HC_MOST_DUTY under our rates, nor more than HC_MOST_OWN_DUTY under any. 2,000 entries of 100,000 litres at 10,000 of
+     * product 1 owe the one under our rates, and the other where the rate of product 1 is 65,535. */
     static uint32_t most[HC_VOLUME_ENTRIES * HC_ENTRY_NUMBERS];
     static uint8_t longest[HC_VOLUME_BYTES];
     for (size_t i = 0; i < HC_VOLUME_ENTRIES; i++) {
@@ -145,7 +147,8 @@ static void log_shift(void)
     const struct hc_rates greatest = {{65535}};
     duty = hc_volume_duty(&greatest, longest, most_written.length);
     check("volume duty", duty.refusal);
-    printf("under any rates: %" PRIu64 " cents, which is %sHC_MOST_OWN_DUTY\n", duty.cents, duty.cents == HC_MOST_OWN_DUTY ? "" : "not ");
+    const char *equal = duty.cents == HC_MOST_OWN_DUTY ? "" : "not ";
+    printf("the greatest duty under any rates: %" PRIu64 " cents, which is %sHC_MOST_OWN_DUTY\n", duty.cents, equal);
 
     /* A volume that is cut is refused with 16, and has no duty. */
     duty = hc_volume_duty(&rates, volume, written.length - 1);

@@ -8,7 +8,7 @@ use lib.ListN.{length}
 use Rattle.varint.specs.Number.{number}
 use Rattle.rates.specs.declared.Pair.{Pair}
 
--- 'a count, 0 to 8, then that many pairs of product and rate in our groups of seven': the string of these pairs
+-- 'pairs of product and rate in our groups of seven': the string of a pair, and of pairs one after the other
 unfoldable pub pairString : Pair → List ℕ
 pairString pair = number (pair .product) ++ number (pair .rate)
 
@@ -16,6 +16,7 @@ unfoldable pub pairsString : List Pair → List ℕ
 pairsString [] = []
 pairsString (pair ∷ pairs) = pairString pair ++ pairsString pairs
 
+-- 'a count, 0 to 8, then that many pairs': the string of a table
 unfoldable pub tableString : List Pair → List ℕ
 tableString pairs = number (length pairs) ++ pairsString pairs
 

@@ -24,7 +24,6 @@ pub struct Rates {
 }
 
 // The answer of loading: the refusal number, 0 where the string is accepted, and the table in use after it.
-#[repr(C)]
 pub struct RatesAnswer {
     pub refusal: u64,
     pub rates: Rates,

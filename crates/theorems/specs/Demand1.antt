@@ -1,5 +1,5 @@
 -- Demand 1: every call, for all bytes, lengths, positions and tables, is accepted with 0, or answers one of its own refusal numbers and leaves
--- head, tables and every lent byte as they were; loading leaves the table of rates in use.
+-- head, tables, the table of rates in use and every lent byte as they were.
 use mathlib.Core.Path.{_≡_}
 use mathlib.Core.List.{List, [], _∷_, List·Memᴰ}
 use mathlib.Core.Logic.{_⊎_}

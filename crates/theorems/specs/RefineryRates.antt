@@ -46,7 +46,7 @@ mostOwnDuty = 13107000000000
 
 pub record RefineryRates : Type 0 where
   -- 'a count, 0 to 8, then that many pairs of product and rate in our groups of seven, three at most, products 1 to 8, each above the one before,
-  -- rates 0 to 65,535': exactly such strings load, and they give the rates of their pairs.
+  -- rates 0 to 65,535': exactly such strings load, and they give the rates of their pairs. No number in these ranges has more than three groups.
   pub loads-iff :
       (string rates : List ℕ) → AllBytes string
       → (loadRates string ≡ accepted rates) ↔ ((pairs : List Pair) × Table string pairs × (ratesOf pairs ≡ rates))

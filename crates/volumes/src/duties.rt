@@ -2,7 +2,7 @@
 use crate::lent::line;
 use rates::Rates;
 
-// Takes the duty on a string under a table of rates, which is to get this refusal number and this number of cents.
+// Takes the duty on a string under a table of rates. It is to get this refusal number and this number of cents.
 pub fn owes_under(rates: Rates, case: &[u8], string: &[u8], refusal: u64, cents: u64) {
     let answer = duty::volume_duty(rates, string);
     let ok = (answer.refusal == refusal) & (answer.cents == cents);

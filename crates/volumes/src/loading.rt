@@ -1,9 +1,9 @@
-// Loading a table of rates: with our table in use, and with one that a refinery loaded before.
+// Loading a table of rates: with our table in use, and with another.
 use crate::lent::line;
 use crate::table::wide;
 use rates::Rates;
 
-// Whether a table has this rate for a product, and whether 1 litre at 10,000 of it owes as many cents.
+// Whether `rate`, which the table has for this product, is this number, and whether 1 litre at 10,000 of the product owes as many cents.
 fn rate_is(table: [u16; 8], product: u8, rate: u16, number: u32) -> bool {
     let volume = [0x01, 0x00, 0x01, 0x90, 0x4e, product];
     let answer = duty::volume_duty(Rates { cents: table }, &volume);
@@ -33,8 +33,8 @@ fn load_is(before: Rates, string: &[u8], refusal: u64, rates: &[u32]) -> bool {
     (answer.refusal == refusal) & table_is(table, rates)
 }
 
-// A table that was loaded before.
-fn loaded() -> Rates {
+// Another table, whose rates all differ from ours.
+fn another() -> Rates {
     Rates {
         cents: [1001, 1002, 1003, 1004, 1005, 1006, 1007, 65_535],
     }
@@ -49,7 +49,7 @@ pub fn loads(case: &[u8], string: &[u8], numbers: &[u32]) {
     let refusal = wide(numbers[0]);
     let rates = &numbers[1..];
     let ok = if refusal == 0 {
-        load_is(Rates::ours(), string, 0, rates) & load_is(loaded(), string, 0, rates)
+        load_is(Rates::ours(), string, 0, rates) & load_is(another(), string, 0, rates)
     } else {
         load_is(
             Rates::ours(),
@@ -58,7 +58,7 @@ pub fn loads(case: &[u8], string: &[u8], numbers: &[u32]) {
             &[120, 95, 95, 60, 40, 40, 15, 0],
         )
             & load_is(
-                loaded(),
+                another(),
                 string,
                 refusal,
                 &[1001, 1002, 1003, 1004, 1005, 1006, 1007, 65_535],

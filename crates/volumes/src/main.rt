@@ -1,7 +1,7 @@
 // The cases of document 02 (d), the shift volume, (e), the duty on it, (f), the effect of one ratio on the duty, and (n), the refinery's own rates:
 // reading, writing, enciphering, the duty and the loading of rates, a line each, `ok` or `wrong`.
 use table::DUTY;
-use table::RATES;
+use table::LOAD;
 use table::READ;
 use table::WRITE;
 
@@ -290,10 +290,11 @@ product 9: 01 00 e8 07 8d 04 09: gets 15 owes 0
     );
 }
 
-// Tables that load: of no pairs, of all eight, with gaps; and rates at both ends of their range and on both sides of where their groups grow in number.
+// Tables that load: of no pairs, of all eight, with gaps; and rates at both ends of their range and on both sides of where their groups grow in
+// number.
 fn load_rates() {
     table::each(
-        RATES,
+        LOAD,
         b"\
 no pairs: 00: gets 0, 0 0 0 0 0 0 0 0
 all eight: 08 01 01 02 02 03 03 04 04 05 05 06 06 07 07 08 08: gets 0, 1 2 3 4 5 6 7 8
@@ -323,7 +324,7 @@ rate 65535: 01 03 ff ff 03: gets 0, 0 0 65535 0 0 0 0 0
 // that are missing or left over.
 fn load_faults() {
     table::each(
-        RATES,
+        LOAD,
         b"\
 count 9 and nothing more: 09: gets 24
 count 9 and eight pairs: 09 01 01 02 02 03 03 04 04 05 05 06 06 07 07 08 08: gets 24
@@ -337,7 +338,7 @@ product 0 after 1: 02 01 05 00 05: gets 24
 product 0 after 4: 02 04 05 00 05: gets 24
 product 9 after 4: 02 04 05 09 05: gets 24
 product 9 after 8: 02 08 05 09 05: gets 24
-product 0 after two: 03 04 05 06 05 00 05: gets 24
+product 0 after 4 and 6: 03 04 05 06 05 00 05: gets 24
 rate 65536: 01 03 80 80 04: gets 24
 rate 65536 after a pair: 02 01 05 03 80 80 04: gets 24
 rate 2097151: 01 03 ff ff 7f: gets 24
@@ -349,7 +350,7 @@ product 3 after 4: 02 04 05 03 05: gets 25
 product 1 after 8: 02 08 05 01 05: gets 25
 product 2 after 1 and 2: 03 01 05 02 05 02 05: gets 25
 product 1 after 1 and 2: 03 01 05 02 05 01 05: gets 25
-product 8 after all eight but 7, twice: 08 01 01 02 02 03 03 04 04 05 05 06 06 08 08 08 08: gets 25
+product 8 after all but product 7: 08 01 01 02 02 03 03 04 04 05 05 06 06 08 08 08 08: gets 25
 count 0 in two groups: 80 00: gets 24
 count 1 in two groups: 81 00 03 05: gets 24
 count 9 in two groups: 89 00: gets 24
@@ -376,6 +377,7 @@ count cut after a group: 80: gets 24
 count cut after two groups: 80 80: gets 24
 product cut after a group: 01 83: gets 24
 rate cut after two groups: 01 03 85 80: gets 24
+third pair missing: 03 03 05 04 05: gets 24
 count 8 and seven pairs: 08 01 01 02 02 03 03 04 04 05 05 06 06 07 07: gets 24
 a byte after no pairs: 00 00: gets 24
 a byte after a pair: 01 03 05 00: gets 24
@@ -389,7 +391,7 @@ a byte after all eight: 08 01 01 02 02 03 03 04 04 05 05 06 06 07 07 08 08 00: g
 // Two faults: the first in reading order gives the refusal number.
 fn load_order() {
     table::each(
-        RATES,
+        LOAD,
         b"\
 count 9, product 4 after 4: 09 04 05 04 05: gets 24
 count in two groups, product 4 after 4: 82 00 04 05 04 05: gets 24
@@ -402,7 +404,6 @@ product 3 after 4, rate in two groups: 02 04 05 03 85 00: gets 25
 product 3 after 4 and nothing more: 02 04 05 03: gets 25
 product 3 after 4, rate cut: 02 04 05 03 85: gets 25
 product 3 after 4, third pair missing: 03 04 05 03 05: gets 25
-third pair missing: 03 03 05 04 05: gets 24
 product 3 after 4, a byte after the pairs: 02 04 05 03 05 00: gets 25
 product 0 after 4 and nothing more: 02 04 05 00: gets 24
 product 9 after 4, a byte after the pairs: 02 04 05 09 05 00: gets 24

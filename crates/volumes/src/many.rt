@@ -30,7 +30,8 @@ fn alike(
     owes(case, string, 0, cents);
 }
 
-// The smallest entry has 4 bytes and the largest 8, and the count of 2,000 has 2. No volume owes more than the third, under our rates and under any.
+// The smallest entry has 4 bytes and the largest 8, and the count of 2,000 has 2. The third owes the most of any volume under our rates and, where
+// the rate of product 1 is 65,535, under any table.
 pub fn most() {
     let mut list = [0u32; 8000];
     let mut other = [0u32; 8000];

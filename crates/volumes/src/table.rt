@@ -23,7 +23,7 @@ pub const WRITE: u32 = 3;
 
 pub const DUTY: u32 = 4;
 
-pub const RATES: u32 = 5;
+pub const LOAD: u32 = 5;
 
 // Whether reading a string into a list gives this refusal number and these entries.
 pub fn read_is(string: &[u8], list: &mut [u32], refusal: u64, entries: &[u32]) -> bool {
@@ -155,7 +155,7 @@ pub fn wide(n: u32) -> u64 {
 
 // Runs a case with the bytes and the numbers of its line.
 fn run(call: u32, case: &[u8], string: &[u8], numbers: &[u32]) {
-    if call == RATES {
+    if call == LOAD {
         loads(case, string, numbers);
         return;
     }
