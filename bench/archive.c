@@ -122,4 +122,18 @@ static int64_t duty(const uint8_t *volume, size_t volume_bytes, size_t times)
 #define duty NULL
 #endif
 
-const struct implementation COLUMN = { TITLE, create, set_up, cipher, 1, move, recover, write_checkpoint, load, write_volume, read_volume, duty };
+/* An earlier archive may have no soundness. */
+#ifdef HAS_SOUNDNESS
+static int64_t soundness(const uint8_t *volume, size_t volume_bytes, size_t times)
+{
+    struct hc_soundness found = { 0, 0 };
+    for (size_t i = 0; i < times; i++)
+        found = hc_volume_soundness(volume, volume_bytes);
+    return found.answer == HC_CUT ? -1 : (int64_t)found.length;
+}
+#else
+#define soundness NULL
+#endif
+
+const struct implementation COLUMN = { TITLE, create, set_up, cipher, 1, move, recover, write_checkpoint, load, write_volume, read_volume, duty,
+                                       soundness };

@@ -98,6 +98,14 @@ static void check_volume(const struct implementation *const *all, size_t count)
         /* 16383 * 128 * 95 / 10000, 16384 * 10000 * 95 / 10000 and 99999 * 525 * 60 / 10000, each cut down */
         if (all[k]->duty != NULL && all[k]->duty(found, length, 1) != 19921 + 1556480 + 314996)
             stop_volume(all[k], "the duty on a volume");
+        if (all[k]->soundness == NULL)
+            continue;
+        for (size_t n = 0; n <= length; n++)
+            if (all[k]->soundness(found, n, 1) != (n == length ? 0 : -1))
+                stop_volume(all[k], "the soundness of a volume or of a beginning of one");
+        found[15] |= 0x80; /* the second group of the third entry's ratio announces a third */
+        if (all[k]->soundness(found, length, 1) != 16)
+            stop_volume(all[k], "the length at which a volume became hopeless");
     }
 }
 

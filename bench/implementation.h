@@ -33,6 +33,8 @@ struct implementation {
     int64_t (*read_volume)(const uint8_t *volume, size_t volume_bytes, uint32_t *entries, size_t numbers, size_t times);
     /* Works out the duty on a volume, so many times in a row, and returns it in cents; -1 where the volume is refused. */
     int64_t (*duty)(const uint8_t *volume, size_t volume_bytes, size_t times);
+    /* Takes the soundness of a string, so many times in a row, and returns 0 where it is sound, -1 where it is cut, else the hopeless length. */
+    int64_t (*soundness)(const uint8_t *volume, size_t volume_bytes, size_t times);
 };
 
 #endif

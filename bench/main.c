@@ -140,6 +140,8 @@ static void print_goals(void)
     print_goal("write volume: time / faster plain C, at most 2", "-     ", writing, writing <= 2);
     print_goal("read volume: time / faster plain C, at most 2", "-     ", reading, reading <= 2);
     print_goal("duty: time / faster plain C, at most 2", "-     ", duty, duty <= 2);
+    double soundness = against_fastest(SOUNDNESS, 0, PLAIN_GCC, PLAIN_CLANG);
+    print_goal("soundness: time / faster plain C, at most 2", "-     ", soundness, soundness <= 2);
 }
 
 /* Its argument is the number of rounds. */

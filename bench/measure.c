@@ -26,6 +26,7 @@ const struct row_about about[ROWS] = {
     [WRITE_VOLUME] = { "write volume, 2,000 entries", MICROSECONDS, 20 },
     [READ_VOLUME] = { "read volume, 2,000 entries", MICROSECONDS, 20 },
     [DUTY] = { "duty on 2,000 entries", MICROSECONDS, 20 },
+    [SOUNDNESS] = { "soundness of 2,000 entries", MICROSECONDS, 20 },
 };
 
 double seconds[ROWS][2][MOST_COLUMNS];
@@ -54,7 +55,7 @@ static double now(void)
 
 int ciphers_of(enum row row)
 {
-    return row == WRITE_VOLUME || row == READ_VOLUME || row == DUTY ? 1 : 2;
+    return row == WRITE_VOLUME || row == READ_VOLUME || row == DUTY || row == SOUNDNESS ? 1 : 2;
 }
 
 size_t bulk_bytes(enum row row)
@@ -90,6 +91,7 @@ static int has(const struct implementation *it, enum row row)
     case WRITE_VOLUME: return it->write_volume != NULL;
     case READ_VOLUME: return it->read_volume != NULL;
     case DUTY: return it->duty != NULL;
+    case SOUNDNESS: return it->soundness != NULL;
     default: return call_bytes(row) >= it->least_call;
     }
 }
@@ -205,6 +207,15 @@ static double time_duty(const struct implementation *it)
     return (now() - start) / (double)times;
 }
 
+static double time_soundness(const struct implementation *it)
+{
+    size_t times = 16, length = it->write_volume(entries, 4 * VOLUME_ENTRIES, volume, sizeof volume, 1);
+    double start = now();
+    if (it->soundness(volume, length, times) != 0)
+        abort();
+    return (now() - start) / (double)times;
+}
+
 static double time_row(struct engine *e, enum row row)
 {
     switch (row) {
@@ -218,6 +229,7 @@ static double time_row(struct engine *e, enum row row)
     case WRITE_VOLUME: return time_write_volume(e->it);
     case READ_VOLUME: return time_read_volume(e->it);
     case DUTY: return time_duty(e->it);
+    case SOUNDNESS: return time_soundness(e->it);
     default: return time_cipher(e, call_bytes(row));
     }
 }

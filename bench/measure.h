@@ -22,6 +22,7 @@ enum row {
     WRITE_VOLUME,
     READ_VOLUME,
     DUTY,
+    SOUNDNESS,
     ROWS
 };
 

@@ -84,4 +84,13 @@ static int64_t duty(const uint8_t *volume, size_t volume_bytes, size_t times)
     return owed.refusal == 0 ? (int64_t)owed.value : -1;
 }
 
-const struct implementation COLUMN = { TITLE, create, set_up, cipher, 1, move, recover, write_checkpoint, load, write_volume, read_volume, duty };
+static int64_t soundness(const uint8_t *volume, size_t volume_bytes, size_t times)
+{
+    int64_t found = 0;
+    for (size_t i = 0; i < times; i++)
+        found = plain_soundness(volume, volume_bytes);
+    return found;
+}
+
+const struct implementation COLUMN = { TITLE, create, set_up, cipher, 1, move, recover, write_checkpoint, load, write_volume, read_volume, duty,
+                                       soundness };

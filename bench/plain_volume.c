@@ -1,5 +1,5 @@
-/* Volumes are read twice, as the archive does: once to check, and again to store, so that a refused call has stored nothing. For the duty they are
- * read once. */
+/* Volumes are read twice, as the archive does: once to check, and again to store, so that a refused call has stored nothing. For the duty and for
+ * the soundness they are read once. */
 #include "plain_volume.h"
 
 #define MOST_ENTRIES 2000
@@ -90,6 +90,55 @@ struct plain_answer plain_duty(const uint16_t *rates, const uint8_t *volume, siz
     if (p.at != p.end)
         return refused(16);
     return accepted(cents);
+}
+
+enum soundness { SOUND, CUT, HOPELESS };
+
+/* Goes through a number that is to be in a range, up to the first byte after which no bytes bring it there. */
+static enum soundness pass_number(struct place *p, uint32_t low, uint32_t high, uint32_t *value)
+{
+    uint32_t n = 0;
+    for (int shift = 0;; shift += 7) {
+        if (p->at == p->end)
+            return CUT;
+        uint8_t b = *p->at++;
+        n += (uint32_t)(b & 127) << shift;
+        if (b < 128) {
+            *value = n;
+            return (b == 0 && shift != 0) || n < low || n > high ? HOPELESS : SOUND;
+        }
+        if (n + ((uint32_t)128 << shift) > high)
+            return HOPELESS;
+    }
+}
+
+static enum soundness pass_volume(struct place *p)
+{
+    uint32_t count, value;
+    enum soundness found = pass_number(p, 0, MOST_ENTRIES, &count);
+    if (found != SOUND)
+        return found;
+    for (uint32_t k = 0; k < count; k++) {
+        for (int i = 0; i < 4; i++) {
+            found = pass_number(p, least[i], most[i], &value);
+            if (found != SOUND)
+                return found;
+        }
+    }
+    if (p->at == p->end)
+        return SOUND;
+    p->at++;
+    return HOPELESS;
+}
+
+int64_t plain_soundness(const uint8_t *volume, size_t volume_bytes)
+{
+    struct place p = { volume, volume + volume_bytes };
+    switch (pass_volume(&p)) {
+    case SOUND: return 0;
+    case CUT: return -1;
+    default: return p.at - volume;
+    }
 }
 
 static size_t count_groups(uint32_t n)

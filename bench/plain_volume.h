@@ -1,4 +1,4 @@
-/* The shift volume and the duty on it under a table of eight rates in plain C, written from requests (d) and (e) of document 02. */
+/* The shift volume, the duty on it under a table of eight rates, and its soundness, in plain C, from requests (d), (e) and (j) of document 02. */
 #ifndef PLAIN_VOLUME_H
 #define PLAIN_VOLUME_H
 
@@ -14,5 +14,7 @@ struct plain_answer {
 struct plain_answer plain_write_volume(const uint32_t *entries, size_t numbers, uint8_t *lent, size_t lent_bytes);
 struct plain_answer plain_read_volume(const uint8_t *volume, size_t volume_bytes, uint32_t *entries, size_t numbers);
 struct plain_answer plain_duty(const uint16_t *rates, const uint8_t *volume, size_t volume_bytes);
+/* 0 where the string is a volume, -1 where it is cut, else the length of its shortest beginning that no bytes complete. */
+int64_t plain_soundness(const uint8_t *volume, size_t volume_bytes);
 
 #endif

@@ -19,7 +19,8 @@ struct call {
 static struct call set_up = {"hc_set_up", 0}, cipher = {"hc_cipher", 0}, move = {"hc_move", 0}, checkpoint_length = {"hc_checkpoint_length", 0},
                    writing = {"hc_write", 0}, recover = {"hc_recover", 0}, load = {"hc_load", 0}, spent = {"hc_spent", 0},
                    write_volume = {"hc_write_volume", 0}, read_volume = {"hc_read_volume", 0}, encipher_volume = {"hc_encipher_volume", 0},
-                   our_rates = {"hc_our_rates", 0}, load_rates = {"hc_load_rates", 0}, duty = {"hc_volume_duty", 0};
+                   our_rates = {"hc_our_rates", 0}, load_rates = {"hc_load_rates", 0}, duty = {"hc_volume_duty", 0},
+                   soundness = {"hc_volume_soundness", 0};
 
 /* Makes a call with up to eight arguments, the last two on the stack, and keeps the most that it took. */
 static void measure(struct call *call, void *function, const uintptr_t arguments[8])
@@ -98,6 +99,13 @@ static void of_volumes(uint32_t code, size_t key_bytes, size_t words)
             exit(1);
         }
         MEASURE(duty, hc_volume_duty, AT(&rates), AT(volume), length);
+        for (size_t cut = 0; cut <= length; cut += cut < 64 ? 1 : 61)
+            MEASURE(soundness, hc_volume_soundness, AT(volume), cut);
+        for (size_t at = 0; at < length; at += at < 64 ? 1 : 61) { /* a group that announces another, and one that does not */
+            volume[at] ^= 0x80;
+            MEASURE(soundness, hc_volume_soundness, AT(volume), length);
+            volume[at] ^= 0x80;
+        }
         uint64_t end = head.position + length;
         MEASURE(encipher_volume, hc_encipher_volume, AT(&head), AT(area), words, AT(volume), length);
         if (head.position != end) {
@@ -131,7 +139,7 @@ static void of_rates(void)
 int main(void)
 {
     const struct call *calls[] = {&set_up, &cipher, &move, &checkpoint_length, &writing, &recover, &load, &spent,
-                                  &write_volume, &read_volume, &encipher_volume, &our_rates, &load_rates, &duty};
+                                  &write_volume, &read_volume, &encipher_volume, &our_rates, &load_rates, &duty, &soundness};
     of_cipher(HC_128, HC_128_KEY_BYTES, HC_128_AREA_WORDS);
     of_cipher(HC_256, HC_256_KEY_BYTES, HC_256_AREA_WORDS);
     of_volumes(HC_128, HC_128_KEY_BYTES, HC_128_AREA_WORDS);

@@ -4,10 +4,10 @@
  * lock and does no input or output, so every call is reentrant, and two engines may be used by two threads at once. From the C library it needs
  * memcpy and memset.
  *
- * Every call but hc_our_rates, which is never refused, returns 0 (HC_OK) or the number of its first refusal, in the order given at the call. A
- * refused call changes nothing: the head, the area, the table of rates and every byte and number that you lent keep their values. Keys, IVs and
- * keystream are bytes; an area is 32-bit words; a position counts bytes. No structure below has padding, so a call writes no byte of a head, of a
- * table of rates or of what it returns that is not the value of a field.
+ * Every call but hc_our_rates and hc_volume_soundness, which are never refused, returns 0 (HC_OK) or the number of its first refusal, in the order
+ * given at the call. A refused call changes nothing: the head, the area, the table of rates and every byte and number that you lent keep their
+ * values. Keys, IVs and keystream are bytes; an area is 32-bit words; a position counts bytes. No structure below has padding, so a call writes no
+ * byte of a head, of a table of rates or of what it returns that is not the value of a field.
  *
  * Your obligations, which C cannot check and the proofs take for granted:
  *   - A pointer is not null and points to as many elements as the length after it says, or to one structure where there is none, aligned for its
@@ -151,7 +151,7 @@ struct hc_count {
 };
 
 /* A table of rates: the rate of product p is cents[p - 1], in cents per litre. The table in use is yours. Start with what hc_our_rates returns and
- * not with zeros, under which nothing is owed, and let hc_load_rates replace it. Any eight 16-bit numbers are a table, also those that you made up. */
+ * not with zeros, under which nothing is owed, and let hc_load_rates replace it. Any eight 16-bit numbers are a table, also some that you made up. */
 struct hc_rates {
     uint16_t cents[HC_PRODUCTS];
 };
@@ -160,6 +160,21 @@ struct hc_rates {
 struct hc_duty {
     uint64_t refusal;
     uint64_t cents;
+};
+
+/* What hc_volume_soundness answers. A beginning of a string is its first bytes: none, some or all of them. It can be completed where some bytes after
+ * it, or none, make it a volume that hc_read_volume accepts into a list that is long enough. */
+enum hc_soundness_answer {
+    HC_SOUND = 0,   /* hc_read_volume accepts the string into a list that is long enough */
+    HC_CUT = 1,     /* it does not, but every beginning of the string, the whole string included, can be completed */
+    HC_HOPELESS = 2 /* a beginning of the string can't be completed, whatever bytes come after it */
+};
+
+/* What hc_volume_soundness returns. answer is one of enum hc_soundness_answer. length is, for a string that is hopeless, how many bytes its shortest
+ * beginning has that can't be completed, 2 to HC_VOLUME_BYTES + 1; it is 0 for one that is sound or cut. */
+struct hc_soundness {
+    uint64_t answer;
+    size_t length;
 };
 
 /* Set up: fills the area from a key and an IV, and the head becomes the given code and word 0 at position 0 with mark 0, whatever it was.
@@ -260,6 +275,18 @@ uint64_t hc_load_rates(struct hc_rates *rates, const uint8_t *string, size_t str
  * enciphered. Every table is taken as it is: under any of them the duty fits 64 bits.
  * Refusals: 16, 14, 15 as hc_read_volume. Stack: 72 bytes. */
 struct hc_duty hc_volume_duty(const struct hc_rates *rates, const uint8_t *volume, size_t volume_bytes);
+
+/* Volume soundness: whether a string is a volume (sound), the beginning of one and no volume itself (cut), or neither (hopeless), and then the length
+ * of its shortest beginning that no bytes whatsoever could complete into a volume. The last byte of that beginning is the one that made it hopeless.
+ * That may be before the last group of a number, where no number in its range has these groups: the second group of a ratio that announces a third
+ * is such a byte. The empty string is cut. Bytes after the last entry are hopeless from the first of them on. The time grows with volume_bytes.
+ * Refusals: none. Stack: 32 bytes.
+ *
+ *     0x01 0x00 0x64 0x90           cut: one entry, no minutes, 100 litres, the first group of a ratio
+ *     0x01 0x00 0x64 0x90 0x4F      hopeless at 5: ratio 10,128 is out of its range
+ *     0x01 0x00 0x64 0x90 0xCE 0x01 hopeless at 5: a ratio has no third group
+ */
+struct hc_soundness hc_volume_soundness(const uint8_t *volume, size_t volume_bytes);
 
 #ifdef __cplusplus
 }

@@ -1,7 +1,7 @@
 /* The first program to write: log blend ratios, keep a checkpoint, go on from it elsewhere, and read everything back without the key. On the way it shows
  * that a look back at an old entry leaves what is spent, that a refused call changes nothing, and that a head is refused with an area that was copied
  * too early. At the end a shift's entries are written as a volume, enciphered, deciphered and read, and their duty is worked out, under our rates and
- * under a refinery's own. */
+ * under a refinery's own; and strings that are no volumes are told apart: those that are only cut, and those that became hopeless. */
 #include <inttypes.h>
 #include <stdio.h>
 #include <stdlib.h>
@@ -28,6 +28,7 @@ NO_PADDING(hc_words, SIZE(hc_words, refusal) + SIZE(hc_words, key) + SIZE(hc_wor
 NO_PADDING(hc_count, SIZE(hc_count, refusal) + SIZE(hc_count, count));
 NO_PADDING(hc_duty, SIZE(hc_duty, refusal) + SIZE(hc_duty, cents));
 NO_PADDING(hc_rates, SIZE(hc_rates, cents));
+NO_PADDING(hc_soundness, SIZE(hc_soundness, answer) + SIZE(hc_soundness, length));
 NO_PADDING(engine, SIZE(engine, head) + SIZE(engine, area));
 
 static void check(const char *call, uint64_t refusal)
@@ -52,6 +53,16 @@ static void show(const char *what, const uint8_t *bytes, size_t n)
     for (size_t i = 0; i < n; i++)
         printf(" %02x", bytes[i]);
     printf("\n");
+}
+
+/* Says whether a string is a volume, and where it became hopeless. */
+static void show_soundness(const char *what, const uint8_t *string, size_t n)
+{
+    struct hc_soundness found = hc_volume_soundness(string, n);
+    if (found.answer == HC_HOPELESS)
+        printf("%s: hopeless at byte %zu\n", what, found.length);
+    else
+        printf("%s: %s\n", what, found.answer == HC_SOUND ? "sound" : "cut");
 }
 
 #define ENTRIES 2
@@ -153,6 +164,14 @@ static void log_shift(void)
     /* A volume that is cut is refused with 16, and has no duty. */
     duty = hc_volume_duty(&rates, volume, written.length - 1);
     printf("duty on that volume without its last byte: refused with %" PRIu64 ", %" PRIu64 " cents\n", duty.refusal, duty.cents);
+
+    /* That volume is 01 00 e8 07 8d 04 04: it is sound, and without its last byte it is cut. With a bit set in its sixth byte the second group of the
+     * ratio announces a third, so it is hopeless there. With a byte after the last entry it is hopeless at that byte. */
+    show_soundness("that volume", volume, written.length);
+    show_soundness("without its last byte", volume, written.length - 1);
+    show_soundness("with a byte more", volume, written.length + 1);
+    volume[5] |= 0x80;
+    show_soundness("with a bit set in its sixth byte", volume, written.length);
 }
 
 int main(void)

@@ -45,6 +45,13 @@ pub struct HcDuty {
     pub cents: u64,
 }
 
+#[repr(C)]
+#[derive(Clone, Copy)]
+pub struct HcSoundness {
+    pub answer: u64,
+    pub length: usize,
+}
+
 // Each structure is as long as its fields together, so it has no padding.
 const _: () = assert!(size_of::<HcHead>() == 4 + 4 + 8 + 8);
 const _: () = assert!(size_of::<HcLength>() == 8 + 8);
@@ -52,6 +59,7 @@ const _: () = assert!(size_of::<HcWords>() == 8 + 8 * 4 + 8 * 4);
 const _: () = assert!(size_of::<HcCount>() == 8 + 8);
 const _: () = assert!(size_of::<HcRates>() == 8 * 2);
 const _: () = assert!(size_of::<HcDuty>() == 8 + 8);
+const _: () = assert!(size_of::<HcSoundness>() == 8 + 8);
 
 extern "C" {
     pub fn hc_set_up(
@@ -85,4 +93,5 @@ extern "C" {
     pub fn hc_our_rates() -> HcRates;
     pub fn hc_load_rates(rates: *mut HcRates, string: *const u8, string_bytes: usize) -> u64;
     pub fn hc_volume_duty(rates: *const HcRates, volume: *const u8, volume_bytes: usize) -> HcDuty;
+    pub fn hc_volume_soundness(volume: *const u8, volume_bytes: usize) -> HcSoundness;
 }

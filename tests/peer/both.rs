@@ -1,12 +1,13 @@
 //! One engine and one table of rates held twice, by the archive and by the peer; each call is made on both and everything is
 //! compared.
 
-use crate::archive::{self, HcCount, HcDuty, HcHead, HcLength, HcRates, HcWords};
+use crate::archive::{self, HcCount, HcDuty, HcHead, HcLength, HcRates, HcSoundness, HcWords};
 use crate::calls::{self, Head};
 use crate::ciphers::{self, Cipher};
 use crate::duty;
 use crate::lent::Lent;
 use crate::rates::{self, Rates};
+use crate::soundness::{self, Soundness};
 use crate::tally::Tally;
 use crate::volume::{self, Fault};
 use std::fmt::{Debug, LowerHex};
@@ -71,6 +72,15 @@ impl Comparison {
             self.differences.push(format!("{what}: the archive wrote outside"));
         }
     }
+
+    /// Asks the archive for the soundness of a string that its reading has refused with this number, or has accepted into a list
+    /// that is long enough.
+    fn soundness_beside_reading(&mut self, refusal: u64, string: &[u8], lent: &mut Lent<u8>) {
+        let returned = unsafe { archive::hc_volume_soundness(lent.pointer(), string.len()) };
+        self.differences.extend(fault_beside_reading(refusal, string.len(), returned));
+        self.equal_lists("string of soundness", lent.content(), string);
+        self.guards("string of soundness", lent);
+    }
 }
 
 /// The answer of an archive's call that returns only a refusal.
@@ -119,6 +129,41 @@ fn answer_of_fault(fault: Fault) -> String {
         Some(number) => format!("{}, {}", fault.kind(), number.name),
         None => fault.kind().to_string(),
     }
+}
+
+/// The word that the count has for a soundness. A hopeless beginning ends with the byte that made it so: a group that announces
+/// another, a last group that is 0 where there are several, or one with which the value is out of range.
+fn answer_of_soundness(string: &[u8], soundness: Soundness) -> String {
+    let beginning = match soundness {
+        Soundness::Sound => return "sound".to_string(),
+        Soundness::Cut if string.is_empty() => return "cut, empty string".to_string(),
+        Soundness::Cut => string,
+        Soundness::Hopeless(length) => &string[..length],
+    };
+    let (numbers, left) = volume::numbers_before_fault(beginning);
+    let name = volume::number_at(numbers.len()).name;
+    let group = ["", "first", "second", "third"][left.len().min(3)];
+    match (soundness, left.last()) {
+        (Soundness::Cut, None) => format!("cut before {name}"),
+        (Soundness::Cut, Some(_)) => format!("cut in {name}"),
+        _ if numbers.len() == volume::numbers_of_volume(&numbers) => "hopeless, bytes after the last entry".to_string(),
+        (_, Some(0x80..)) => format!("hopeless, {group} group announces another, {name}"),
+        (_, Some(0x00)) if left.len() > 1 => format!("hopeless, {group} group is 0, {name}"),
+        _ => format!("hopeless, out of range, {name}"),
+    }
+}
+
+/// What is wrong with the archive's answer for a string that reading refuses with this number, or accepts into a list that is long
+/// enough. Only a string that reading accepts is sound, and only one that is refused with 16 can be cut.
+fn fault_beside_reading(refusal: u64, bytes: usize, returned: HcSoundness) -> Option<String> {
+    let is_right = match (returned.answer, returned.length) {
+        (0, 0) => refusal == 0,
+        (1, 0) => refusal == 16,
+        (2, length) => refusal != 0 && (1..=bytes).contains(&length),
+        _ => false,
+    };
+    let HcSoundness { answer, length } = returned;
+    (!is_right).then(|| format!("archive: soundness says {answer} with length {length}, read volume {refusal}"))
 }
 
 /// Whether a string is refused with 14 for its last byte, without which it ends early.
@@ -660,6 +705,9 @@ impl<'t> Both<'t> {
         comparison.equal_lists("volume", lent.content(), string);
         comparison.guards("list", &lent_list);
         comparison.guards("volume", &lent);
+        // 8 is for the list alone.
+        let refusal = if returned.refusal == 8 { 0 } else { returned.refusal };
+        comparison.soundness_beside_reading(refusal, string, &mut lent);
         self.end(comparison)?;
         self.count_read_volume(string, list_before.len(), result);
         Ok(result.map(|count| (count, peer_list)))
@@ -794,6 +842,7 @@ impl<'t> Both<'t> {
         if returned.refusal != read.refusal {
             comparison.differences.push(format!("archive: volume duty says {}, read volume {}", returned.refusal, read.refusal));
         }
+        comparison.soundness_beside_reading(read.refusal, string, &mut lent);
         self.end(comparison)?;
         self.count_volume_duty(string, result);
         Ok(result)
@@ -833,5 +882,74 @@ impl<'t> Both<'t> {
             rates != rates::OURS && cents != duty::of_entries(&rates::OURS, &entries),
             "volume duty other than under our rates",
         );
+    }
+
+    /// Volume soundness, which takes neither head nor area; both are compared all the same.
+    pub fn volume_soundness(&mut self, string: &[u8]) -> Agreed<Soundness> {
+        self.volume_soundness_before(string, &[])
+    }
+
+    /// Volume soundness where other bytes follow in memory, which are not part of the string. The archive must say that the string
+    /// is sound just where its read volume accepts it into a list that is long enough, and can say that it is cut only where that
+    /// is refused with 16.
+    pub fn volume_soundness_before(&mut self, string: &[u8], after: &[u8]) -> Agreed<Soundness> {
+        let mut comparison = self.begin(format!("volume soundness, {}, {} after it", in_full(string), short(after)));
+        let mut lent = self.lend(&[string, after].concat());
+        let returned = unsafe { archive::hc_volume_soundness(lent.pointer(), string.len()) };
+        let soundness = soundness::of(string);
+        let (answer, length) = soundness.numbers();
+        comparison.equal("answer and length", (returned.answer, returned.length), (answer, length));
+        let returned_bytes = unsafe { transmute::<HcSoundness, [u8; 16]>(returned) };
+        comparison.equal_bytes("returned structure", &returned_bytes, &bytes_of_numbers(&[answer, length as u64]));
+        comparison.equal_lists("string", &lent.content()[..string.len()], string);
+        comparison.equal_lists("bytes after the string", &lent.content()[string.len()..], after);
+        comparison.guards("string", &lent);
+        // Each number has at least one byte, so as many numbers as there are bytes are enough.
+        let mut list = self.lend_list(&vec![0; string.len()]);
+        let read = unsafe { archive::hc_read_volume(lent.pointer(), string.len(), list.pointer(), string.len()) };
+        comparison.differences.extend(fault_beside_reading(read.refusal, string.len(), returned));
+        self.end(comparison)?;
+        self.count_volume_soundness(string, soundness, read.refusal);
+        Ok(Ok(soundness))
+    }
+
+    /// Counts a volume soundness.
+    fn count_volume_soundness(&mut self, string: &[u8], soundness: Soundness, refusal_of_reading: u64) {
+        self.tally.call("volume soundness", &answer_of_soundness(string, soundness), None);
+        let (numbers, left) = volume::numbers_before_fault(string);
+        let entries = numbers.first().map_or(0, |count| *count as usize);
+        let mut special = |holds: bool, what: &str| {
+            if holds {
+                self.tally.special(what, None);
+            }
+        };
+        match soundness {
+            Soundness::Sound => {
+                special(entries == 0, "soundness of no entries, sound");
+                special(entries == 2_000, "soundness of 2,000 entries, sound");
+            }
+            Soundness::Cut => {
+                let is_litres = volume::number_at(numbers.len()).name == "litres";
+                special(is_litres && left.len() == 2, "soundness, cut after two groups of litres");
+                special(entries == 2_000, "soundness of 2,000 entries, cut");
+            }
+            Soundness::Hopeless(length) => {
+                let is_whole = numbers.len() == volume::numbers_of_volume(&numbers);
+                let entry = numbers.len().saturating_sub(1) / 4;
+                let is_in_entry = !numbers.is_empty() && !is_whole;
+                special(length == string.len(), "soundness, hopeless at the last byte");
+                special(length < string.len(), "soundness, hopeless before the last byte");
+                special(is_whole && length < string.len(), "soundness, several bytes after the last entry");
+                // Reading refuses a number for its last group, for the third one or for the end of the string.
+                let groups = length + left.len() - string.len();
+                let is_earlier = !is_whole && groups < 3 && string[length - 1] >= 0x80;
+                special(is_earlier, &format!("soundness, hopeless earlier than {refusal_of_reading} in reading"));
+                special(is_in_entry && entries > 1 && entry == 0, "soundness, hopeless in the first of several");
+                special(is_in_entry && entries > 1 && entry + 1 == entries, "soundness, hopeless in the last of several");
+                let is_between = is_in_entry && 0 < entry && entry + 1 < entries;
+                special(is_between, "soundness, hopeless between two other entries");
+                special(is_in_entry && entries == 2_000, "soundness of 2,000 entries, hopeless");
+            }
+        }
     }
 }

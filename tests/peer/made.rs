@@ -1,6 +1,6 @@
 //! Cases made by hand, with the answer that document 01, request (a) or (g) of document 02 or the C header gives for each. Those
-//! of request (b) are in marks.rs, those of (d) in volumes.rs, those of (e) in duties.rs, those of (f) in effects.rs and those of
-//! (n) in rate_tables.rs and rate_duties.rs.
+//! of request (b) are in marks.rs, those of (d) in volumes.rs, those of (e) in duties.rs, those of (f) in effects.rs, those of (j)
+//! in soundnesses.rs and those of (n) in rate_tables.rs and rate_duties.rs.
 
 use crate::both::{Agreed, Both};
 use crate::calls::{self, Head, FRESH, LIMIT};
@@ -11,6 +11,7 @@ use crate::marks;
 use crate::random::Random;
 use crate::rate_duties;
 use crate::rate_tables;
+use crate::soundnesses;
 use crate::tally::Tally;
 use crate::vectors;
 use crate::volumes;
@@ -689,5 +690,6 @@ pub fn run(seed: u64, tally: &mut Tally) -> Result<(), String> {
     duties::run(tally)?;
     effects::run(tally)?;
     rate_tables::run(tally)?;
-    rate_duties::run(tally)
+    rate_duties::run(tally)?;
+    soundnesses::run(tally)
 }

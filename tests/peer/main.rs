@@ -1,6 +1,7 @@
 //! Compares the archive with the peer: main [SEED [LISTS]].
 
 mod archive;
+mod beginnings;
 mod both;
 mod calls;
 mod ciphers;
@@ -14,10 +15,13 @@ mod made;
 mod marks;
 mod random;
 mod random_rates;
+mod random_soundnesses;
 mod random_volumes;
 mod rate_duties;
 mod rate_tables;
 mod rates;
+mod soundness;
+mod soundnesses;
 mod tally;
 mod vectors;
 mod volume;
@@ -40,6 +44,9 @@ const VOLUMES_PER_LIST: u64 = 10;
 
 /// How many random runs of tables of rates there are for each random list.
 const RATES_PER_LIST: u64 = 10;
+
+/// How many random strings there are for each random list, whose soundness is taken.
+const STRINGS_PER_LIST: u64 = 4;
 
 /// A number from the command line, or its default.
 fn argument(place: usize, default: u64) -> Result<u64, String> {
@@ -84,6 +91,12 @@ fn compare(seed: u64, lists: u64) -> Result<(), String> {
         random_rates::run(seed, number, &mut random).map_err(|text| format!("random tables of rates {number}, {text}"))?;
     }
     println!("{tables} random runs of tables of rates: no difference");
+
+    let strings = STRINGS_PER_LIST * lists;
+    for number in 0..strings {
+        random_soundnesses::run(seed, number, &mut random).map_err(|text| format!("random string {number}, {text}"))?;
+    }
+    println!("{strings} random strings: no difference");
     let faults = random.print_and_check();
     if !faults.is_empty() {
         return Err(faults.join("\n"));

@@ -61,8 +61,40 @@ const NO_RATES: [(&str, Where); 14] = [
     ("25 not above the one before", Neither),
 ];
 
+/// The answers about the soundness of strings. A product has one group: no string is cut in it, and a first group that announces
+/// another is hopeless. Count, minutes and ratio have two groups at most. Two groups of litres that announce a third are not yet
+/// hopeless.
+const SOUNDNESS: [(&str, Where); 26] = [
+    ("sound", Neither),
+    ("cut, empty string", Neither),
+    ("cut before minutes", Neither),
+    ("cut before litres", Neither),
+    ("cut before ratio", Neither),
+    ("cut before product", Neither),
+    ("cut in count", Neither),
+    ("cut in minutes", Neither),
+    ("cut in litres", Neither),
+    ("cut in ratio", Neither),
+    ("hopeless, out of range, count", Neither),
+    ("hopeless, out of range, minutes", Neither),
+    ("hopeless, out of range, litres", Neither),
+    ("hopeless, out of range, ratio", Neither),
+    ("hopeless, out of range, product", Neither),
+    ("hopeless, second group is 0, count", Neither),
+    ("hopeless, second group is 0, minutes", Neither),
+    ("hopeless, second group is 0, litres", Neither),
+    ("hopeless, third group is 0, litres", Neither),
+    ("hopeless, second group is 0, ratio", Neither),
+    ("hopeless, second group announces another, count", Neither),
+    ("hopeless, second group announces another, minutes", Neither),
+    ("hopeless, third group announces another, litres", Neither),
+    ("hopeless, second group announces another, ratio", Neither),
+    ("hopeless, first group announces another, product", Neither),
+    ("hopeless, bytes after the last entry", Neither),
+];
+
 /// For each call the answers that it must give.
-const EXPECTED: [(&str, &[(&str, Where)]); 17] = [
+const EXPECTED: [(&str, &[(&str, Where)]); 18] = [
     ("set up", &[("accepted", Ciphers), ("1", Neither), ("2", Ciphers), ("3", Ciphers), ("4", Ciphers)]),
     ("cipher", &[("accepted", Ciphers), ("1", Neither), ("4", Ciphers), ("5", Ciphers), ("13", Ciphers), ("6", Ciphers)]),
     (
@@ -120,6 +152,7 @@ const EXPECTED: [(&str, &[(&str, Where)]); 17] = [
     ("our rates", &[("accepted", Neither)]),
     ("load rates", &[("accepted", Neither)]),
     ("load rates", &NO_RATES),
+    ("volume soundness", &SOUNDNESS),
     (
         "encipher volume",
         &[
@@ -206,7 +239,7 @@ const SPECIAL: [&str; 63] = [
 ];
 
 /// Calls of special interest that must occur where the code names no cipher or the call takes none.
-const SPECIAL_WITHOUT_CIPHER: [&str; 59] = [
+const SPECIAL_WITHOUT_CIPHER: [&str; 75] = [
     "14, 15 or 16 before 1 in encipher volume",
     "write volume of no entries",
     "write volume of 2,000 entries",
@@ -266,6 +299,22 @@ const SPECIAL_WITHOUT_CIPHER: [&str; 59] = [
     "volume duty over the greatest under our rates",
     "volume duty other than under our rates",
     "changed ratio under another table than ours",
+    "soundness of no entries, sound",
+    "soundness of 2,000 entries, sound",
+    "soundness of 2,000 entries, cut",
+    "soundness of 2,000 entries, hopeless",
+    "soundness, cut after two groups of litres",
+    "soundness, hopeless at the last byte",
+    "soundness, hopeless before the last byte",
+    "soundness, several bytes after the last entry",
+    "soundness, hopeless earlier than 14 in reading",
+    "soundness, hopeless earlier than 15 in reading",
+    "soundness, hopeless earlier than 16 in reading",
+    "soundness, hopeless in the first of several",
+    "soundness, hopeless in the last of several",
+    "soundness, hopeless between two other entries",
+    "soundness of a completed beginning",
+    "soundness of a lengthened hopeless beginning",
 ];
 
 #[derive(Default)]

@@ -105,6 +105,37 @@ fn next(string: &mut &[u8], number: &'static Number) -> Result<u32, Fault> {
     Ok(value)
 }
 
+/// Whether the reader takes these bytes, all of them, as this number.
+pub fn is_number(bytes: &[u8], number: &'static Number) -> bool {
+    let mut left = bytes;
+    next(&mut left, number).is_ok() && left.is_empty()
+}
+
+/// The number that a place of a string is for: the count in place 0, then four for each entry.
+pub fn number_at(place: usize) -> &'static Number {
+    match place {
+        0 => &COUNT,
+        _ => &ENTRY[(place - 1) % 4],
+    }
+}
+
+/// How many numbers a volume has that begins with these: the count, and four for each entry where the count is known.
+pub fn numbers_of_volume(numbers: &[u32]) -> usize {
+    1 + 4 * numbers.first().map_or(0, |count| *count as usize)
+}
+
+/// The numbers of a string before its first fault, the count among them, and the bytes that follow them.
+pub fn numbers_before_fault(string: &[u8]) -> (Vec<u32>, &[u8]) {
+    let (mut numbers, mut left) = (Vec::new(), string);
+    while numbers.len() < numbers_of_volume(&numbers) {
+        match next(&mut left, number_at(numbers.len())) {
+            Ok(value) => numbers.push(value),
+            Err(_) => break,
+        }
+    }
+    (numbers, left)
+}
+
 /// Adds the numbers of a volume's entries to a list, up to the first fault.
 fn read_into(volume: &[u8], entries: &mut Vec<u32>) -> Result<(), Fault> {
     let mut left = volume;

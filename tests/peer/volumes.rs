@@ -56,7 +56,7 @@ const LARGE_VALUES: [u32; 12] = [
 const RANGES: [(u32, u32); 4] = [(0, 1_440), (0, 100_000), (0, 10_000), (1, 8)];
 
 /// The numbers of a volume of three entries with their bytes. The first is the count.
-const THREE: [(u32, &[u8]); 13] = [
+pub const THREE: [(u32, &[u8]); 13] = [
     (3, &[0x03]),
     (15, &[0x0F]),
     (20_000, &[0xA0, 0x9C, 0x01]),
@@ -77,11 +77,11 @@ const THREE_BYTES: usize = 22;
 
 /// The example of the C header: its entries and their volume of 14 bytes.
 const EXAMPLE: [u32; 8] = [0, 1000, 525, 4, 15, 20000, 610, 2];
-const EXAMPLE_VOLUME: [u8; 14] = [0x02, 0x00, 0xE8, 0x07, 0x8D, 0x04, 0x04, 0x0F, 0xA0, 0x9C, 0x01, 0xE2, 0x04, 0x02];
+pub const EXAMPLE_VOLUME: [u8; 14] = [0x02, 0x00, 0xE8, 0x07, 0x8D, 0x04, 0x04, 0x0F, 0xA0, 0x9C, 0x01, 0xE2, 0x04, 0x02];
 
 /// An entry of the smallest values and one of the largest, with their bytes.
-const SMALLEST: ([u32; 4], [u8; 4]) = ([0, 0, 0, 1], [0x00, 0x00, 0x00, 0x01]);
-const LARGEST: ([u32; 4], [u8; 8]) = ([1_440, 100_000, 10_000, 8], [0xA0, 0x0B, 0xA0, 0x8D, 0x06, 0x90, 0x4E, 0x08]);
+pub const SMALLEST: ([u32; 4], [u8; 4]) = ([0, 0, 0, 1], [0x00, 0x00, 0x00, 0x01]);
+pub const LARGEST: ([u32; 4], [u8; 8]) = ([1_440, 100_000, 10_000, 8], [0xA0, 0x0B, 0xA0, 0x8D, 0x06, 0x90, 0x4E, 0x08]);
 
 /// Counts with their bytes, up to the largest.
 const COUNTS: [(usize, &[u8]); 8] = [
@@ -106,12 +106,12 @@ fn three_list() -> Vec<u32> {
 }
 
 /// The bytes of the three entries with other bytes in the place of one number.
-fn three_with(place: usize, bytes: &[u8]) -> Vec<u8> {
+pub fn three_with(place: usize, bytes: &[u8]) -> Vec<u8> {
     three_with_all(&[(place, bytes)])
 }
 
 /// The bytes of the three entries with other bytes in the place of some numbers.
-fn three_with_all(others: &[(usize, &[u8])]) -> Vec<u8> {
+pub fn three_with_all(others: &[(usize, &[u8])]) -> Vec<u8> {
     let mut parts = THREE.map(|(_, bytes)| bytes);
     for (place, bytes) in others {
         parts[*place] = bytes;
@@ -130,7 +130,7 @@ pub fn bytes_of(value: u32) -> Vec<u8> {
 }
 
 /// Where the bytes of a number of the three entries begin.
-fn three_start(place: usize) -> usize {
+pub fn three_start(place: usize) -> usize {
     THREE[..place].iter().map(|(_, bytes)| bytes.len()).sum()
 }
 

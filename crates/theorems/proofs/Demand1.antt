@@ -10,6 +10,8 @@ use Rattle.varint.specs.Number.{readNumber}
 use Rattle.volume.specs.Volume.{inRange, countRange, entriesInRange, volumeString, entriesOf}
 use Rattle.volume.specs.Calls.{entriesIn, readVolume, readVolumeCall, writeVolume, writeVolumeCall}
 use Rattle.rates.specs.Calls.{loadRates, loadRatesCall}
+use Rattle.soundness.specs.Found.{volumeSoundness}
+use Rattle.soundness.proofs.InVolume.{volume-fits}
 use Rattle.duty.specs.Calls.{volumeDuty, volumeDutyCall}
 use Rattle.checkpoint.specs.Checkpoint.{mostGroups, lengthOf}
 use Rattle.conditions.specs.Limit.{limit}
@@ -102,4 +104,5 @@ demand1 = record {
       answers _ (volumeDuty rates string)
       (then-line (entriesIn string) _ (volume-within first (after first) (after (after first)) string) λ entries. by-none);
   of-load-rates = λ inUse string. answers inUse (loadRates string) (rates-within first (after first) string);
+  of-volume-soundness = λ string bytes. (volumeSoundness string, volume-fits string bytes);
 }

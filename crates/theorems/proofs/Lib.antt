@@ -21,6 +21,7 @@ pub mod ShiftVolume
 pub mod ComponentDuty
 pub mod ReadingEffect
 pub mod RefineryRates
+pub mod WhereHopeless
 pub mod Demand3
 pub mod CheckpointLength
 pub mod Refusal12

@@ -272,7 +272,7 @@ entries-longest [] h = omega arith
 entries-longest (e ∷ entries) h =
     omega (arith, length-append (entryString e) (entriesString entries), entry-longest e (h .0), entries-longest entries (h .1))
 
-volume-length : (entries : List Entry) → length entries ≤ 2000 → AllInRange entries
+pub volume-length : (entries : List Entry) → length entries ≤ 2000 → AllInRange entries
     → (1 ≤ length (volumeString entries)) × (length (volumeString entries) ≤ 16002)
 unfolding volumeString
 volume-length entries l h =

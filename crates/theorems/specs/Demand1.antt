@@ -9,7 +9,10 @@ use lib.ListN.{replicate}
 use Rattle.volume.specs.Calls.{readVolume, readVolumeCall, writeVolume, writeVolumeCall}
 use Rattle.rates.specs.Calls.{loadRates, loadRatesCall}
 use Rattle.duty.specs.Calls.{volumeDuty, volumeDutyCall}
+use Rattle.soundness.specs.declared.Soundness.{Soundness}
+use Rattle.soundness.specs.Soundness.{Fits}
 use Rattle.laws.specs.Result.{Result, refused, accepted, Outcome}
+use Rattle.word.specs.Bytes.{AllBytes}
 use Rattle.engine.specs.declared.Head.{Head}
 use Rattle.engine.specs.Calls.{engineOf, setUp, cipher, encipherVolume, move, write, checkpointLength, recover, load, spent}
 use Rattle.engine.specs.Calls.{setUpCall, cipherCall, encipherVolumeCall, moveCall, writeCall, checkpointLengthCall, recoverCall, loadCall, spentCall}
@@ -73,3 +76,5 @@ pub record Demand1 : Type 0 where
       (rates string : List ℕ) → AcceptedOrRefused (16 ∷ 14 ∷ 15 ∷ 16 ∷ []) 0 (volumeDuty rates string) (volumeDutyCall rates string)
   pub of-load-rates :
       (inUse string : List ℕ) → AcceptedOrRefused (24 ∷ 25 ∷ 24 ∷ []) inUse (loadRates string) (loadRatesCall inUse string)
+  -- Volume soundness is never refused: for every string of bytes there is an answer.
+  pub of-volume-soundness : (string : List ℕ) → AllBytes string → (s : Soundness) × Fits string s

@@ -16,3 +16,4 @@ pub mod ShiftVolume
 pub mod ComponentDuty
 pub mod ReadingEffect
 pub mod RefineryRates
+pub mod WhereHopeless

@@ -14,17 +14,17 @@ use Rattle.varint.specs.Place.{readingOf, nextWithin}
 use Rattle.varint.proofs.Reading.{read-none, read-end, read-last, read-small, read-more}
 
 -- what groups of this value and weight in all make of the groups after them
-abbrev onto : (value weight : ℕ) → Reading → Reading
+abbrev pub onto : (value weight : ℕ) → Reading → Reading
 onto value weight (is n rest) = is (value + weight * n) rest
 onto value weight ended = ended
 onto value weight malformed = malformed
 
-onto-none : (f : Reading) → onto 0 1 f ≡ f
+pub onto-none : (f : Reading) → onto 0 1 f ≡ f
 onto-none (is n rest) = let e : 0 + 1 * n ≡ n = omega arith in rw e
 onto-none ended = refl
 onto-none malformed = refl
 
-onto-more : (value weight b : ℕ) (f : Reading) → onto value weight (before b f) ≡ onto (value + weight * (b - 128)) (128 * weight) f
+pub onto-more : (value weight b : ℕ) (f : Reading) → onto value weight (before b f) ≡ onto (value + weight * (b - 128)) (128 * weight) f
 onto-more value weight b (is n rest) =
     let e : value + weight * (b - 128 + 128 * n) ≡ value + weight * (b - 128) + 128 * weight * n =
     rw (mul-add, ← add-assoc) (ap (λ (x : ℕ). value + weight * (b - 128) + x) (sym (mul-assoc weight 128 n) ∙ ap (λ (x : ℕ). x * n) (mul-comm weight 128))) in

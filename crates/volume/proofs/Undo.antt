@@ -41,7 +41,7 @@ pub entry-before : (e : Entry) (rest : List ℕ)
 unfolding entryString
 entry-before e rest = rw (append-assoc, append-assoc, append-assoc)
 
-entry-back : (e : Entry) (rest : List ℕ) → entryInRange e ≡ true → readEntry (entryString e ++ rest) ≡ accepted (record { entry = e; rest = rest })
+pub entry-back : (e : Entry) (rest : List ℕ) → entryInRange e ≡ true → readEntry (entryString e ++ rest) ≡ accepted (record { entry = e; rest = rest })
 unfolding readEntry
 entry-back e rest h =
     rw (
@@ -52,20 +52,20 @@ entry-back e rest h =
       value-back productRange (omega arith) (e .product) rest (product-in e h),
     )
 
-string-cons : (e : Entry) (entries : List Entry) (rest : List ℕ)
+pub string-cons : (e : Entry) (entries : List Entry) (rest : List ℕ)
     → entriesString (e ∷ entries) ++ rest ≡ entryString e ++ (entriesString entries ++ rest)
 unfolding entriesString
 string-cons e entries rest = rw append-assoc
 
-range-first : (e : Entry) (entries : List Entry) → entriesInRange (e ∷ entries) ≡ true → entryInRange e ≡ true
+pub range-first : (e : Entry) (entries : List Entry) → entriesInRange (e ∷ entries) ≡ true → entryInRange e ≡ true
 unfolding entriesInRange
 range-first e entries h = and-left (entryInRange e) (entriesInRange entries) h
 
-range-others : (e : Entry) (entries : List Entry) → entriesInRange (e ∷ entries) ≡ true → entriesInRange entries ≡ true
+pub range-others : (e : Entry) (entries : List Entry) → entriesInRange (e ∷ entries) ≡ true → entriesInRange entries ≡ true
 unfolding entriesInRange
 range-others e entries h = and-right (entryInRange e) (entriesInRange entries) h
 
-entries-back : (entries : List Entry) (rest : List ℕ) → entriesInRange entries ≡ true
+pub entries-back : (entries : List Entry) (rest : List ℕ) → entriesInRange entries ≡ true
     → readEntries (length entries) (entriesString entries ++ rest) ≡ accepted (record { entries = entries; rest = rest })
 unfolding entriesString
 entries-back [] rest h = entries-zero rest
@@ -96,7 +96,7 @@ entry-bytes e =
     (append-below (m ++ l) r (append-below m l (number-bytes (e .minutes)) (number-bytes (e .litres))) (number-bytes (e .ratio)))
     (number-bytes (e .product))
 
-entries-bytes : (entries : List Entry) (i : ℕ) → getD (entriesString entries) i 0 < 256
+pub entries-bytes : (entries : List Entry) (i : ℕ) → getD (entriesString entries) i 0 < 256
 unfolding entriesString
 entries-bytes [] = λ i. omega arith
 entries-bytes (e ∷ entries) = append-below (entryString e) (entriesString entries) (entry-bytes e) (entries-bytes entries)
@@ -108,7 +108,7 @@ volume-bytes entries = append-below (number (length entries)) (entriesString ent
 -- ---- what is read is what would have been written
 
 -- the elements of a list after others are bytes where all are
-after-below : (a b : List ℕ) → ((i : ℕ) → getD (a ++ b) i 0 < 256) → (i : ℕ) → getD b i 0 < 256
+pub after-below : (a b : List ℕ) → ((i : ℕ) → getD (a ++ b) i 0 < 256) → (i : ℕ) → getD b i 0 < 256
 after-below [] b h = h
 after-below (x ∷ a) b h = after-below a b (λ i. h (suc i))
 

@@ -1,10 +1,14 @@
-// The cases of document 02 (d), the shift volume, (e), the duty on it, (f), the effect of one ratio on the duty, and (n), the refinery's own rates:
-// reading, writing, enciphering, the duty and the loading of rates, a line each, `ok` or `wrong`.
+// The cases of document 02 (d), the shift volume, (e), the duty on it, (f), the effect of one ratio on the duty, (n), the refinery's own rates, and
+// (j), where a volume became hopeless: reading, writing, enciphering, the duty, the loading of rates and the soundness, a line each, `ok` or `wrong`.
+use table::CUT;
 use table::DUTY;
+use table::HOPELESS;
 use table::LOAD;
 use table::READ;
+use table::SOUND;
 use table::WRITE;
 
+mod beginnings;
 mod duties;
 mod enciphering;
 mod lent;
@@ -459,6 +463,98 @@ to one byte past the limit: 01 00 00 00 01: 1 at 67108860 mark 9 change 0 short 
     );
 }
 
+// Volumes, and strings that are cut: before the first number, after whole numbers, at both ends of what may follow, and inside numbers whose groups so
+// far leave some number in the range.
+fn sound_or_cut() {
+    table::each(
+        SOUND,
+        b"\
+no entry: 00:
+smallest entry: 01 00 00 00 01:
+largest entry: 01 a0 0b a0 8d 06 90 4e 08:
+two entries: 02 00 e8 07 8d 04 04 0f a0 9c 01 e2 04 02:
+",
+    );
+    table::each(
+        CUT,
+        b"\
+empty string::
+count 1: 01:
+count 1999: cf 0f:
+count 2000: d0 0f:
+count, first group 0: 80:
+count, first group 127: ff:
+count 1920: 80 0f:
+minutes, first group 127: 01 ff:
+minutes, second group 10: 01 ff 0a:
+minutes 1439: 01 9f 0b:
+minutes 1440: 01 a0 0b:
+litres, first group 127: 01 00 ff:
+litres, two groups of 0: 01 00 80 80:
+litres, two groups of 127: 01 00 ff ff:
+litres, third group 5: 01 00 ff ff 05:
+litres, third group 6, second 12: 01 00 ff 8c 06:
+litres 99999: 01 00 9f 8d 06:
+litres 100000: 01 00 a0 8d 06:
+ratio, first group 127: 01 00 00 ff:
+ratio, second group 77: 01 00 00 ff 4d:
+ratio 9999: 01 00 00 8f 4e:
+ratio 10000: 01 00 00 90 4e:
+product 8, an entry missing: 02 00 00 00 08:
+two entries, last byte missing: 02 00 e8 07 8d 04 04 0f a0 9c 01 e2 04:
+",
+    );
+}
+
+// Strings that are hopeless: at a last group, at a group after which no number in the range can follow, and at the first byte after the last entry.
+// Of two faults the first one counts.
+fn hopeless() {
+    table::each(
+        HOPELESS,
+        b"\
+count 2001: d1 0f: at 2
+count, second group 16: 80 10: at 2
+count, last group 0: 80 00: at 2
+count, second group announces a third: 80 80: at 2
+count 2000 in three groups: d0 8f 00: at 2
+count, third group announces another: 81 80 80 01 00 00 00 01: at 2
+minutes 1441: 01 a1 0b: at 3
+minutes, second group 12: 01 80 0c: at 3
+minutes, last group 0: 01 80 00: at 3
+minutes, second group announces a third: 01 80 80 01 00 00 01: at 3
+minutes 1440 in three groups: 01 a0 8b 00: at 3
+litres 100001: 01 00 a1 8d 06: at 5
+litres, third group 6, second 14: 01 00 80 8e 06: at 5
+litres, third group 7: 01 00 80 80 07: at 5
+litres, last of two groups 0: 01 00 80 00: at 4
+litres, last of three groups 0: 01 00 80 80 00: at 5
+litres, third group announces another: 01 00 80 80 80 01 00 01: at 5
+ratio 10001: 01 00 00 91 4e: at 5
+ratio, second group 79: 01 00 00 80 4f: at 5
+ratio, last group 0: 01 00 00 80 00: at 5
+ratio, second group announces a third: 01 00 00 80 80: at 5
+ratio 10000 in three groups: 01 00 00 90 ce 00 01: at 5
+ratio, third group announces another: 01 00 00 80 80 80: at 5
+product 0: 01 00 00 00 00: at 5
+product 9: 01 00 00 00 09: at 5
+product 127: 01 00 00 00 7f: at 5
+product, first group announces a second: 01 00 00 00 80: at 5
+product 1 in two groups: 01 00 00 00 81 00: at 5
+second entry, minutes 1441: 02 00 00 00 01 a1 0b: at 7
+second entry, litres 100001: 02 00 00 00 01 00 a1 8d 06: at 9
+second entry, ratio's second group announces a third: 02 00 00 00 01 00 00 80 80: at 9
+second entry, product 9: 02 00 00 00 01 00 00 00 09: at 9
+a byte after no entry: 00 00: at 2
+a byte after an entry: 01 00 00 00 01 00: at 6
+three bytes after an entry: 01 00 00 00 01 ff ff ff: at 6
+an entry after an entry: 01 00 00 00 01 00 00 00 01: at 6
+count 2001, minutes 1441: d1 0f a1 0b: at 2
+minutes 1441, product 9: 01 a1 0b 00 00 09: at 3
+product 9, a byte after it: 01 00 00 00 09 00: at 5
+",
+    );
+}
+
 fn main() {
     read_ranges();
     read_groups();
@@ -471,6 +567,8 @@ fn main() {
     load_rates();
     load_faults();
     load_order();
+    sound_or_cut();
+    hopeless();
     encipher(1);
     encipher(2);
 }

@@ -1,10 +1,12 @@
-// Volumes of 2,000 entries, written and read, and their duty; and lists of more.
+// Volumes of 2,000 entries, written and read, their duty, and the soundness of each beginning of one; and lists of more.
 ghost use Prim.Native.Nat.{_≤_};
 ghost use lib.ListN.{length};
+use crate::beginnings::judges;
 use crate::duties::owes;
 use crate::duties::owes_under;
 use crate::lent::fill_bytes;
 use crate::lent::fill_list;
+use crate::table::HOPELESS;
 use crate::table::reads;
 use crate::table::writes;
 use rates::Rates;
@@ -39,6 +41,7 @@ pub fn most() {
     let mut short = [0u8; 8002];
     let mut long = [0u8; 16002];
     let mut same_length = [0u8; 16002];
+    let mut longer = [0u8; 16003];
     let small = [0, 0, 0, 1];
     let two = [0, 0, 0, 1, 0, 0, 0, 1];
     let large = [1440, 100_000, 10_000, 8];
@@ -64,6 +67,8 @@ pub fn most() {
         0,
         13_107_000_000_000,
     );
+    fill_bytes(&mut longer, b"\xd0\x0f", one);
+    judges(b"2000 largest and a byte:", &longer, HOPELESS, &[16_003]);
 }
 
 // Writes a list that begins with these numbers, goes on with smallest entries and is too long.

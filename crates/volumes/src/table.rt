@@ -1,9 +1,11 @@
 // Tables of cases, in text. A line is a case: its name up to `:`, the bytes of a volume, or of a table of rates, in hexadecimal, each after a space,
 // up to `:`, and numbers in other text. For reading and writing these are the size of what is lent, the refusal number, which is 0 where the case is
 // accepted, and the numbers of entries. A refused case has no entries to read, or no bytes to write. For the duty they are the refusal number and the
-// cents, for rates the refusal number and, where it is 0, the eight rates. A number is below 2^32.
+// cents, for rates the refusal number and, where it is 0, the eight rates. For a string that is hopeless it is the length at which it became so, and
+// for one that is sound or cut there is none. A number is below 2^32.
 ghost use Prim.Native.Nat.{_≤_};
 ghost use lib.ListN.{length};
+use crate::beginnings::judges;
 use crate::duties::owes;
 use crate::duties::refuses_as_reading;
 use crate::enciphering::enciphers;
@@ -24,6 +26,13 @@ pub const WRITE: u32 = 3;
 pub const DUTY: u32 = 4;
 
 pub const LOAD: u32 = 5;
+
+// The soundness of the strings of a table, which have this answer.
+pub const SOUND: u32 = 6;
+
+pub const CUT: u32 = 7;
+
+pub const HOPELESS: u32 = 8;
 
 // Whether reading a string into a list gives this refusal number and these entries.
 pub fn read_is(string: &[u8], list: &mut [u32], refusal: u64, entries: &[u32]) -> bool {
@@ -157,6 +166,10 @@ pub fn wide(n: u32) -> u64 {
 fn run(call: u32, case: &[u8], string: &[u8], numbers: &[u32]) {
     if call == LOAD {
         loads(case, string, numbers);
+        return;
+    }
+    if SOUND <= call {
+        judges(case, string, call, numbers);
         return;
     }
     if numbers.len() < 2 {
