@@ -279,7 +279,9 @@ struct hc_duty hc_volume_duty(const struct hc_rates *rates, const uint8_t *volum
 /* Volume soundness: whether a string is a volume (sound), the beginning of one and no volume itself (cut), or neither (hopeless), and then the length
  * of its shortest beginning that no bytes whatsoever could complete into a volume. The last byte of that beginning is the one that made it hopeless.
  * That may be before the last group of a number, where no number in its range has these groups: the second group of a ratio that announces a third
- * is such a byte. The empty string is cut. Bytes after the last entry are hopeless from the first of them on. The time grows with volume_bytes.
+ * is such a byte. The empty string is cut. A string with bytes after its last entry is hopeless at the first of them. volume is the string and no
+ * byte more, and not enciphered. Where the answer is HC_CUT, hc_read_volume refuses with 16; a string that it refuses with 14 or 15 is hopeless, and
+ * one that it refuses with 16 may be cut or hopeless. The time grows with volume_bytes.
  * Refusals: none. Stack: 32 bytes.
  *
  *     0x01 0x00 0x64 0x90           cut: one entry, no minutes, 100 litres, the first group of a ratio

@@ -14,7 +14,8 @@ use volume::MOST_RATIO;
 use volume::reading::check_entry;
 use volume::reading::read_value;
 
-// The answer: the string is a volume; or it is the beginning of one; or no bytes can complete its first `length` bytes, and fewer can be completed.
+// The answer: the string is a volume; or it is none, but some bytes after it make it one; or no bytes can complete its first `length` bytes, and some
+// can complete each shorter beginning.
 pub enum Soundness {
     Sound,
     Cut,
@@ -28,7 +29,8 @@ pub struct SoundnessAnswer {
     pub length: usize,
 }
 
-// Where the number from place `at` on, which reading refuses, became hopeless: at its last group, or at one that leaves only numbers above `most`.
+// Where the number from place `at` on, which reading refuses, became hopeless: at its last group, or at one that leaves only numbers above `most`; or
+// that the string is cut, where it ends before such a group.
 fn number_soundness(string: &[u8], at: usize, most: u32) -> Soundness
     requires { ⌜ (at ≤ length (now string)) × (1 ≤ most) ⌝ }
     ensures { λ r. ⌜ r ≡ Found.groupsSoundness (now (string .entry)) most 0 1 (drop at (now (string .entry))) ⌝ }
@@ -42,7 +44,7 @@ fn number_soundness(string: &[u8], at: usize, most: u32) -> Soundness
         if group < 128 {
             return Soundness::Hopeless { length: next };
         }
-        let least = value + weight * group; // the least number that has these groups, since a later one is not 0
+        let least = value + weight * group; // the least number that has these groups, since the last group is not 0
         if (most as u64) < least {
             return Soundness::Hopeless { length: next };
         }
@@ -52,7 +54,7 @@ fn number_soundness(string: &[u8], at: usize, most: u32) -> Soundness
     Soundness::Cut
 }
 
-// Where the entry from place `at` on, which reading refuses, became hopeless: in its first number that reading refuses.
+// Where the entry from place `at` on, which reading refuses, became hopeless, in its first number that reading refuses; or that the string is cut.
 fn entry_soundness(string: &[u8], at: usize) -> Soundness
     requires { ⌜ at ≤ length (now string) ⌝ }
     ensures { λ r. ⌜ r ≡ Found.entrySoundness (now (string .entry)) (drop at (now (string .entry))) ⌝ }
@@ -72,7 +74,7 @@ fn entry_soundness(string: &[u8], at: usize) -> Soundness
     number_soundness(string, ratio.next, MOST_PRODUCT)
 }
 
-// Whether n entries stand from place `first` on and nothing after them.
+// Whether n entries stand from place `first` on and nothing after them; else where the string became hopeless, or that it is cut.
 fn entries_soundness(string: &[u8], first: usize, n: u32) -> Soundness
     requires { ⌜ first ≤ length (now string) ⌝ }
     ensures { λ r. ⌜ r ≡ Found.entriesSoundness (now (string .entry)) n (drop first (now (string .entry))) ⌝ }
@@ -93,7 +95,7 @@ fn entries_soundness(string: &[u8], first: usize, n: u32) -> Soundness
     Soundness::Sound
 }
 
-// Whether a string is a volume, and where it became hopeless.
+// Whether a string is a volume; else where it became hopeless, or that it is cut.
 pub fn volume_soundness(string: &[u8]) -> Soundness
     ensures { λ r. ⌜ Fits (now (string .entry)) r ⌝ }
 {

@@ -9,7 +9,8 @@ use borrow.Author.Tests.{ltb-true}
 use lib.Dec.{ltb}
 use lib.ListN.{length, take, length-append}
 use lib.Seq.{length-take-le}
-use Rattle.laws.specs.Result.{refused, accepted}
+use Rattle.laws.specs.Result.{Result, refused, accepted}
+use Rattle.laws.proofs.Results.{no-refusal}
 use Rattle.laws.proofs.Same.{and-left, and-right}
 use Rattle.laws.proofs.Lists.{append-below, cons-below, take-below}
 use Rattle.word.specs.Bytes.{AllBytes}
@@ -35,6 +36,9 @@ use Rattle.theorems.specs.WhereHopeless.{RatioThird, WhereHopeless}
 use Rattle.theorems.proofs.ShiftVolume.{shift-volume, all-entries, volume-length}
 
 -- ── reading and volumes ──
+
+refused-one : {n m : ℕ} → _≡_ {A = Result VolumeRead} (refused n) (refused m) → n ≡ m
+refused-one e = cc
 
 sound-read : (string list : List ℕ) → 8000 ≤ length list → Fits string answer.Sound ↔ ((read : VolumeRead) × (readVolume string list ≡ accepted read))
 sound-read string list room = (
@@ -62,6 +66,14 @@ completable-iff beginning bytes = (
 
 cut-16 : (string list : List ℕ) → AllBytes string → Fits string answer.Cut → readVolume string list ≡ refused 16
 cut-16 string list bytes c = shift-volume .read-refused string list 16 (λ e. omega arith) .1 (cut-ends string bytes c)
+
+hopeless-else : (string list : List ℕ) (n : ℕ) → AllBytes string → readVolume string list ≡ refused n → (n ≡ 16 → ⊥) → (n ≡ 8 → ⊥)
+    → (s : Soundness) → Fits string s → (m : ℕ) × Fits string (answer.Hopeless m)
+hopeless-else string list n bytes e h k answer.Sound v =
+    let s = read-shows string (v .0) (v .1) (v .2) in
+    no-refusal (sym (s .entries-are) ∙ shift-volume .read-refused string list n k .0 e)
+hopeless-else string list n bytes e h k answer.Cut c = absurd (h (refused-one (sym e ∙ cut-16 string list bytes c)))
+hopeless-else string list n bytes e h k (answer.Hopeless m) f = (m, f)
 
 -- the beginning that is a byte shorter is one of a volume
 hopeless-most : (string : List ℕ) (n : ℕ) → AllBytes string → Fits string (answer.Hopeless n) → n ≤ 16003
@@ -109,11 +121,16 @@ where-hopeless = record {
   begins = Answers.begins;
   cut-iff = Answers.cut-iff;
   cut-16 = cut-16;
+  hopeless-refused = λ string n bytes h v. h .1 (Answers.volume-begins string n bytes v);
+  refused-hopeless = λ string list n bytes e h k.
+      hopeless-else string list n bytes e h k (volumeSoundness string) (volume-fits string bytes);
   hopeless-stays = λ string rest n bytes. Answers.stays string bytes n rest;
   hopeless-between = λ string n bytes h. (Answers.hopeless-least string n bytes h, hopeless-most string n bytes h);
   ratio-third = ratio-third;
   bytes-after = λ string rest b bytes. Answers.after-volume string b rest bytes;
+  after-none = worked (0x00 ∷ 0x00 ∷ []) (answer.Hopeless 2) refl refl;
   empty = Answers.empty-cut;
+  entry-missing = worked (0x02 ∷ 0x00 ∷ 0x00 ∷ 0x00 ∷ 0x08 ∷ []) answer.Cut refl refl;
   count-2000 = worked (0xD0 ∷ 0x0F ∷ []) answer.Cut refl refl;
   count-2001 = worked (0xD1 ∷ 0x0F ∷ []) (answer.Hopeless 2) refl refl;
   count-last-0 = worked (0x80 ∷ 0x00 ∷ []) (answer.Hopeless 2) refl refl;
@@ -124,10 +141,12 @@ where-hopeless = record {
   litres-third = worked (0x01 ∷ 0x00 ∷ 0xFF ∷ 0xFF ∷ []) answer.Cut refl refl;
   litres-100000 = worked (0x01 ∷ 0x00 ∷ 0xA0 ∷ 0x8D ∷ 0x06 ∷ []) answer.Cut refl refl;
   litres-100001 = worked (0x01 ∷ 0x00 ∷ 0xA1 ∷ 0x8D ∷ 0x06 ∷ []) (answer.Hopeless 5) refl refl;
+  litres-last-0 = worked (0x01 ∷ 0x00 ∷ 0x80 ∷ 0x80 ∷ 0x00 ∷ []) (answer.Hopeless 5) refl refl;
   litres-fourth = worked (0x01 ∷ 0x00 ∷ 0x80 ∷ 0x80 ∷ 0x80 ∷ []) (answer.Hopeless 5) refl refl;
   ratio-first = worked (0x01 ∷ 0x00 ∷ 0x00 ∷ 0x90 ∷ []) answer.Cut refl refl;
   ratio-10000 = worked (0x01 ∷ 0x00 ∷ 0x00 ∷ 0x90 ∷ 0x4E ∷ []) answer.Cut refl refl;
   ratio-10001 = worked (0x01 ∷ 0x00 ∷ 0x00 ∷ 0x91 ∷ 0x4E ∷ []) (answer.Hopeless 5) refl refl;
+  ratio-second = worked (0x01 ∷ 0x00 ∷ 0x00 ∷ 0x90 ∷ 0xCE ∷ []) (answer.Hopeless 5) refl refl;
   product-0 = worked (0x01 ∷ 0x00 ∷ 0x00 ∷ 0x00 ∷ 0x00 ∷ []) (answer.Hopeless 5) refl refl;
   product-8 = worked (0x01 ∷ 0x00 ∷ 0x00 ∷ 0x00 ∷ 0x08 ∷ []) answer.Sound refl refl;
   product-9 = worked (0x01 ∷ 0x00 ∷ 0x00 ∷ 0x00 ∷ 0x09 ∷ []) (answer.Hopeless 5) refl refl;

@@ -1,5 +1,5 @@
 -- Demand 1: every call, for all bytes, lengths, positions and tables, is accepted with 0, or answers one of its own refusal numbers and leaves
--- head, tables, the table of rates in use and every lent byte as they were.
+-- head, tables, the table of rates in use and every lent byte as they were. Volume soundness has no refusals, and its answer is no refusal number.
 use mathlib.Core.Path.{_≡_}
 use mathlib.Core.List.{List, [], _∷_, List·Memᴰ}
 use mathlib.Core.Logic.{_⊎_}
@@ -76,5 +76,5 @@ pub record Demand1 : Type 0 where
       (rates string : List ℕ) → AcceptedOrRefused (16 ∷ 14 ∷ 15 ∷ 16 ∷ []) 0 (volumeDuty rates string) (volumeDutyCall rates string)
   pub of-load-rates :
       (inUse string : List ℕ) → AcceptedOrRefused (24 ∷ 25 ∷ 24 ∷ []) inUse (loadRates string) (loadRatesCall inUse string)
-  -- Volume soundness is never refused: for every string of bytes there is an answer.
+  -- Volume soundness has no refusals: for every string of bytes there is an answer that fits. No other does: `one-answer` of WhereHopeless.
   pub of-volume-soundness : (string : List ℕ) → AllBytes string → (s : Soundness) × Fits string s

@@ -50,8 +50,14 @@ pub record WhereHopeless : Type 0 where
   -- volume and can be completed.
   pub begins : (string : List ℕ) (n : ℕ) → AllBytes string → Completable string → Completable (take n string)
   pub cut-iff : (string : List ℕ) → AllBytes string → Fits string answer.Cut ↔ ((IsVolume string → ⊥) × Completable string)
-  -- Reading refuses a string that is cut with 16, since it ends early.
+  -- Where a string is cut, reading refuses it with 16, whatever the list, since it ends early.
   pub cut-16 : (string list : List ℕ) → AllBytes string → Fits string answer.Cut → readVolume string list ≡ refused 16
+  -- 'When a volume is refused': a string that is hopeless is no volume, so reading refuses it, whatever the list.
+  pub hopeless-refused : (string : List ℕ) (n : ℕ) → AllBytes string → Fits string (answer.Hopeless n) → IsVolume string → ⊥
+  -- Where reading refuses a string with another number than 16 and 8, so with 14 or 15, it is hopeless.
+  pub refused-hopeless :
+      (string list : List ℕ) (n : ℕ) → AllBytes string → readVolume string list ≡ refused n → (n ≡ 16 → ⊥) → (n ≡ 8 → ⊥)
+      → (m : ℕ) × Fits string (answer.Hopeless m)
   -- 'the shortest beginning of it that no bytes whatsoever could complete': with any other bytes after that beginning the string is hopeless at the
   -- same length, which is 2 at least, since any byte begins some volume, and 16,003 at most, since no volume has more than 16,002 bytes.
   pub hopeless-stays :
@@ -61,12 +67,14 @@ pub record WhereHopeless : Type 0 where
   -- whatever comes after it.
   pub ratio-third :
       (string rest : List ℕ) → AllBytes string → RatioThird string rest → Fits string (answer.Hopeless (length string - length rest))
-  -- A volume with bytes after its last entry is hopeless at the first of them.
+  -- A volume with bytes after its last entry is hopeless at the first of them, also one of no entries.
   pub bytes-after :
       (string rest : List ℕ) (b : ℕ) → AllBytes string → Fits string answer.Sound
       → Fits (string ++ (b ∷ rest)) (answer.Hopeless (suc (length string)))
-  -- The empty string is cut.
+  pub after-none : Fits (0x00 ∷ 0x00 ∷ []) (answer.Hopeless 2)
+  -- The empty string is cut, and so is one that ends after the first of two entries.
   pub empty : Fits [] answer.Cut
+  pub entry-missing : Fits (0x02 ∷ 0x00 ∷ 0x00 ∷ 0x00 ∷ 0x08 ∷ []) answer.Cut
   -- A count: 2,000, 2,001, a last group 0, and a second group that announces a third.
   pub count-2000 : Fits (0xD0 ∷ 0x0F ∷ []) answer.Cut
   pub count-2001 : Fits (0xD1 ∷ 0x0F ∷ []) (answer.Hopeless 2)
@@ -76,15 +84,17 @@ pub record WhereHopeless : Type 0 where
   pub minutes-1440 : Fits (0x01 ∷ 0xA0 ∷ 0x0B ∷ []) answer.Cut
   pub minutes-1441 : Fits (0x01 ∷ 0xA1 ∷ 0x0B ∷ []) (answer.Hopeless 3)
   pub minutes-third : Fits (0x01 ∷ 0x80 ∷ 0x80 ∷ []) (answer.Hopeless 3)
-  -- Litres: two groups that announce a third, 100,000, 100,001, and a third group that announces another.
+  -- Litres: two groups, the second of which announces a third; 100,000; 100,001; a last group 0 of three; and a third group that announces another.
   pub litres-third : Fits (0x01 ∷ 0x00 ∷ 0xFF ∷ 0xFF ∷ []) answer.Cut
   pub litres-100000 : Fits (0x01 ∷ 0x00 ∷ 0xA0 ∷ 0x8D ∷ 0x06 ∷ []) answer.Cut
   pub litres-100001 : Fits (0x01 ∷ 0x00 ∷ 0xA1 ∷ 0x8D ∷ 0x06 ∷ []) (answer.Hopeless 5)
+  pub litres-last-0 : Fits (0x01 ∷ 0x00 ∷ 0x80 ∷ 0x80 ∷ 0x00 ∷ []) (answer.Hopeless 5)
   pub litres-fourth : Fits (0x01 ∷ 0x00 ∷ 0x80 ∷ 0x80 ∷ 0x80 ∷ []) (answer.Hopeless 5)
-  -- A ratio: its first group, 10,000 and 10,001.
+  -- A ratio: its first group, 10,000, 10,001, and a second group that announces a third, where reading says 16.
   pub ratio-first : Fits (0x01 ∷ 0x00 ∷ 0x00 ∷ 0x90 ∷ []) answer.Cut
   pub ratio-10000 : Fits (0x01 ∷ 0x00 ∷ 0x00 ∷ 0x90 ∷ 0x4E ∷ []) answer.Cut
   pub ratio-10001 : Fits (0x01 ∷ 0x00 ∷ 0x00 ∷ 0x91 ∷ 0x4E ∷ []) (answer.Hopeless 5)
+  pub ratio-second : Fits (0x01 ∷ 0x00 ∷ 0x00 ∷ 0x90 ∷ 0xCE ∷ []) (answer.Hopeless 5)
   -- A product: 0, 8, 9, and a first group that announces a second.
   pub product-0 : Fits (0x01 ∷ 0x00 ∷ 0x00 ∷ 0x00 ∷ 0x00 ∷ []) (answer.Hopeless 5)
   pub product-8 : Fits (0x01 ∷ 0x00 ∷ 0x00 ∷ 0x00 ∷ 0x08 ∷ []) answer.Sound
