@@ -65,4 +65,5 @@ void cipher(void *p, uint8_t *bytes, size_t n, size_t calls)
 
 } // namespace
 
-const struct implementation cryptopp = { "Crypto++", create, set_up, cipher, 1, nullptr, nullptr, nullptr, nullptr, nullptr, nullptr, nullptr };
+const struct implementation cryptopp = { "Crypto++", create, set_up, cipher, 1, nullptr, nullptr, nullptr, nullptr, nullptr, nullptr, nullptr,
+                                         nullptr };
