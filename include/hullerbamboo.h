@@ -151,7 +151,7 @@ struct hc_count {
 };
 
 /* A table of rates: the rate of product p is cents[p - 1], in cents per litre. The table in use is yours. Start with what hc_our_rates returns and
- * not with zeros, under which nothing is owed, and let hc_load_rates replace it. Any eight 16-bit numbers are a table, also some that you made up. */
+ * not with zeros, under which nothing is owed, and let hc_load_rates replace it. Any eight 16-bit numbers are a table, also eight that you made up. */
 struct hc_rates {
     uint16_t cents[HC_PRODUCTS];
 };

@@ -165,13 +165,13 @@ static void log_shift(void)
     duty = hc_volume_duty(&rates, volume, written.length - 1);
     printf("duty on that volume without its last byte: refused with %" PRIu64 ", %" PRIu64 " cents\n", duty.refusal, duty.cents);
 
-    /* That volume is 01 00 e8 07 8d 04 04: it is sound, and without its last byte it is cut. With a bit set in its sixth byte the second group of the
-     * ratio announces a third, so it is hopeless there. With a byte after the last entry it is hopeless at that byte. */
-    show_soundness("that volume", volume, written.length);
+    /* The volume of the first entry is 01 00 e8 07 8d 04 04: it is sound, and without its last byte it is cut. With a byte after the last entry it is
+     * hopeless at that byte. With the top bit of its sixth byte set the second group of the ratio announces a third, so it is hopeless there. */
+    show_soundness("the volume of the first entry", volume, written.length);
     show_soundness("without its last byte", volume, written.length - 1);
     show_soundness("with a byte more", volume, written.length + 1);
     volume[5] |= 0x80;
-    show_soundness("with a bit set in its sixth byte", volume, written.length);
+    show_soundness("with the top bit of its sixth byte set", volume, written.length);
 }
 
 int main(void)

@@ -1,6 +1,6 @@
 //! Request (j) of document 02: whether a string is a volume, a cut one or a hopeless one, and how long the shortest beginning is
-//! that no bytes complete into a volume. Nothing is known here about the groups of a number. A beginning can be completed where
-//! some bytes after it make a string that the reader of volume.rs accepts, and such bytes are looked for by trying.
+//! that no bytes complete into a volume. No rule here says which groups of a number are hopeless. A beginning can be completed
+//! where some bytes after it make a string that the reader of volume.rs accepts, and such bytes are looked for by trying.
 //!
 //! It is enough to try these: all bytes that make the number in which the beginning ends one that the reader takes, each followed
 //! by the smallest value for every number that is then missing. For suppose that some volume has this beginning. The numbers that

@@ -5,9 +5,9 @@ use mathlib.Core.Logic.{_↔_, _⊎_, inl, inr, ⊎-elim}
 use mathlib.Core.List.{List, [], _∷_, _++_, append-nil, append-assoc}
 use Prim.Native.Nat.{ℕ, zero, suc, _+_, _-_, _*_, _≤_, _<_}
 use native.Mathlib.Omega.{arith}
-use lib.ListN.{length, take, drop, length-append}
+use lib.ListN.{length, take, length-append}
 use lib.Seq.{length-take-le, take-length, take-append-le, take-append-seam, take-take}
-use Rattle.laws.specs.Result.{refused, accepted, _>>=_, _>>_, refuse_unless_}
+use Rattle.laws.specs.Result.{refused}
 use Rattle.laws.proofs.Results.{no-refusal}
 use Rattle.laws.proofs.Lists.{below-or-not, cons-below}
 use Rattle.word.specs.Bytes.{AllBytes}
@@ -16,7 +16,7 @@ use Rattle.varint.proofs.Groups.{number-last}
 use Rattle.varint.proofs.Reading.{read-end, read-more}
 use Rattle.volume.specs.declared.Entry.{Entry}
 use Rattle.volume.specs.Volume.{inRange, countRange, entriesInRange, entriesString, volumeString}
-use Rattle.volume.specs.Calls.{readValue, readEntry, readEntries, entriesIn, checkVolume}
+use Rattle.volume.specs.Calls.{readValue, readEntry, entriesIn, checkVolume}
 use Rattle.volume.proofs.Values.{range-holds}
 use Rattle.volume.proofs.Undo.{value-back, entries-back, volume-was}
 use Rattle.volume.proofs.Shows.{read-shows}
@@ -87,7 +87,7 @@ module _ (string : List ℕ) (bytes : AllBytes string) where
 
 -- ---- bytes after the last entry
 
--- nothing but a volume is its own beginning: with bytes after it, it is refused
+-- a volume with bytes after its last entry is refused
 volume-alone : (entries : List Entry) (b : ℕ) (more : List ℕ) → inRange countRange (length entries) ≡ true → entriesInRange entries ≡ true
     → Checks (volumeString entries ++ (b ∷ more)) → ⊥
 unfolding checkVolume entriesIn volumeString

@@ -1,19 +1,18 @@
 -- What makes an answer fit a string, from what the check of a volume says of single strings. Assumes nothing.
 use mathlib.Core.Path.{_≡_, refl, sym, ap, _∙_}
 use mathlib.Core.List.{List, [], _∷_, _++_, append-assoc}
-use Prim.Native.Nat.{ℕ, suc, _-_, _*_, _≤_, _<_}
+use Prim.Native.Nat.{ℕ, suc, _-_, _*_}
 use native.Mathlib.Omega.{arith}
 use lib.ListN.{length, take, drop, replicate, length-append, length-replicate, take-append-drop}
 use lib.Seq.{take-at, take-append-le}
-use Rattle.laws.specs.Result.{Result, refused, accepted, _>>=_, _>>_}
+use Rattle.laws.specs.Result.{refused, accepted}
 use Rattle.laws.proofs.Results.{no-refusal}
 use Rattle.laws.proofs.Lists.{append-below, drop-below}
 use Rattle.word.specs.Bytes.{AllBytes}
 use Rattle.volume.specs.declared.Entry.{Entry}
-use Rattle.volume.specs.Calls.{entriesIn, checkVolume, readVolume}
+use Rattle.volume.specs.Calls.{entriesIn, checkVolume}
 use Rattle.volume.proofs.Volumes.{read-accepted}
 use Rattle.volume.proofs.Shows.{read-shows, read-accepts}
-use Rattle.soundness.specs.declared.Soundness.{Soundness}
 use Rattle.soundness.specs.declared.Soundness.the-variants as answer
 use Rattle.soundness.specs.Soundness.{IsVolume, Completable, Fits}
 use Rattle.soundness.specs.Found.{hopelessBefore}

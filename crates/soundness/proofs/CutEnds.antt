@@ -9,7 +9,6 @@ use Rattle.laws.proofs.Lists.{below-or-not}
 use Rattle.word.specs.Bytes.{AllBytes}
 use Rattle.varint.specs.Number.{Reading, ended, before, readGroups}
 use Rattle.varint.proofs.Reading.{read-end, read-more}
-use Rattle.volume.specs.declared.Entry.{Entry}
 use Rattle.volume.specs.Volume.{Range, countRange, minutesRange, litresRange, ratioRange, productRange}
 use Rattle.volume.specs.Calls.{ValueRead, EntryRead, readValue, readEntry, readEntries, entriesIn}
 use Rattle.volume.proofs.FourNumbers.{entryOf}

@@ -1,13 +1,13 @@
 -- A number that reading refuses: its groups show whether it is cut, or where it became hopeless. Assumes nothing.
 use mathlib.Core.Path.{_≡_, refl, sym, ap, _∙_}
-use mathlib.Core.Bool.{Bool, true, false, cond}
+use mathlib.Core.Bool.{Bool, true, false}
 use mathlib.Core.Logic.{⊎-elim}
 use mathlib.Core.List.{List, [], _∷_, _++_, append-assoc, append-nil}
 use Prim.Native.Nat.{ℕ, zero, suc, _+_, _-_, _*_, _^_, _≤_, _<_}
 use native.Mathlib.Nat.{mul-add, mul-comm, mul-assoc, mul-le-mul-left, pow-suc}
 use native.Mathlib.Omega.{arith}
 use borrow.Author.Tests.{lt-ltb, le-ltb}
-use lib.ListN.{length, getD, take}
+use lib.ListN.{length}
 use lib.Seq.{take-at}
 use Rattle.laws.specs.Result.{Result, refused, accepted, _>>=_, _>>_, refuse_unless_}
 use Rattle.laws.proofs.Results.{no-refusal}
@@ -19,11 +19,10 @@ use Rattle.varint.proofs.Reading.{read-last, read-small, read-more, groups-read
 use Rattle.volume.specs.Volume.{Range, inRange}
 use Rattle.volume.specs.Calls.{ValueRead, numberRead, readValue, checkVolume}
 use Rattle.volume.proofs.Values.{ranged-value, range-holds, range-most}
-use Rattle.soundness.specs.declared.Soundness.{Soundness}
 use Rattle.soundness.specs.declared.Soundness.the-variants as answer
 use Rattle.soundness.specs.Soundness.{Fits}
 use Rattle.soundness.specs.Found.{hopelessBefore, groupsSoundness, numberSoundness}
-use Rattle.soundness.proofs.Completions.{Checks, Completes, cut-fits, hopeless-fits}
+use Rattle.soundness.proofs.Completions.{Completes, cut-fits, hopeless-fits}
 
 -- some bytes are accepted
 pub record Goes (read : List ℕ → Result (Unit {0})) : Type 0 where
@@ -55,7 +54,8 @@ module _ (range : Range) where
   abbrev pub ranged : Reading → Result ValueRead
   ranged f = numberRead f >>= λ read. (refuse 15 unless inRange range (read .value)) >> accepted read
 
-  -- what up to k further groups of a number are read as, the last of which is not below `least`, after groups of this value and weight in all
+  -- what up to k further groups of a number are read as, the last of which is not below `least`; the groups before make `value` in all, and the
+  -- first of these has this weight
   abbrev pub rest-read : (k least value weight : ℕ) → List ℕ → Result ValueRead
   rest-read k least value weight s = ranged (onto value weight (readGroups k least s))
 
@@ -79,7 +79,7 @@ module _ (range : Range) where
     same-range true x y a m p q = no-refusal p
     same-range false x y a m p q = no-refusal (sym q)
 
-    -- where a last group is refused, it is refused before any bytes
+    -- where a last group is refused, it is not accepted whatever bytes come after it
     on-last : (b : ℕ) (s t : List ℕ) (m : ℕ) (a : ValueRead) → b < 128 → rest-read (suc k) least value weight (b ∷ s) ≡ refused m
         → rest-read (suc k) least value weight (b ∷ t) ≡ accepted a → ⊥
     on-last b s t m a h p q = ⊎-elim
@@ -100,7 +100,7 @@ module _ (range : Range) where
   on-beyond k value weight s ended a h bytes e l q = no-refusal (sym q)
   on-beyond k value weight s malformed a h bytes e l q = no-refusal (sym q)
 
--- where bytes are accepted after each number of a range, bytes are accepted in its place
+-- where after each number of a range some bytes are accepted, some bytes that begin with such a number are
 pub goes-number : (range : Range) → HasOne range → (after : ℕ → List ℕ → Result (Unit {0})) → ((n : ℕ) → inRange range n ≡ true → Goes (after n))
     → Goes (λ t. readValue range t >>= λ read. after (read .value) (read .rest))
 goes-number range one after goes =

@@ -1,27 +1,25 @@
--- The answer that the code works out for a volume fits it: number by number, from what lies before each. Assumes nothing.
+-- The answer that the code works out for a string fits it: number by number, from what lies before each. Assumes nothing.
 use mathlib.Core.Path.{_≡_, refl, sym, ap, _∙_}
 use mathlib.Core.Bool.{true}
-use mathlib.Core.List.{List, [], _∷_, _++_, append-assoc, append-nil}
+use mathlib.Core.List.{List, [], _∷_, _++_, append-assoc}
 use Prim.Native.Nat.{ℕ, zero, suc, _^_, _≤_, _<_}
 use native.Mathlib.Omega.{arith}
-use lib.ListN.{length}
-use Rattle.laws.specs.Result.{Result, refused, accepted, _>>=_, _>>_, refuse_unless_}
+use Rattle.laws.specs.Result.{Result, refused, accepted, _>>=_, _>>_}
 use Rattle.laws.proofs.Results.{block-in-block, same-lines, refused-iff, no-refusal}
 use Rattle.word.specs.Bytes.{AllBytes}
 use Rattle.varint.specs.Number.{number}
 use Rattle.volume.specs.declared.Entry.{Entry}
 use Rattle.volume.specs.Volume.{Range, inRange, countRange, minutesRange, litresRange, ratioRange, productRange}
-use Rattle.volume.specs.Calls.{ValueRead, EntryRead, readValue, readEntry, isEmpty, entriesIn, checkVolume}
+use Rattle.volume.specs.Calls.{ValueRead, EntryRead, readValue, readEntry, entriesIn, checkVolume}
 use Rattle.volume.specs.Found.{entriesOnly}
 use Rattle.volume.proofs.Values.{value-in-range}
 use Rattle.volume.proofs.Undo.{value-back, value-was}
-use Rattle.volume.proofs.FourNumbers.{entryOf, Four, entry-four}
+use Rattle.volume.proofs.FourNumbers.{entryOf, entry-four}
 use Rattle.volume.proofs.EntryByEntry.{only-zero, only-suc}
 use Rattle.volume.proofs.Volumes.{volume-value}
 use Rattle.soundness.specs.declared.Soundness.{Soundness}
-use Rattle.soundness.specs.declared.Soundness.the-variants as answer
 use Rattle.soundness.specs.Soundness.{Fits}
-use Rattle.soundness.specs.Found.{either, hopelessBefore, numberSoundness, afterNumber, entrySoundness, entriesSoundness, volumeSoundness}
+use Rattle.soundness.specs.Found.{either, numberSoundness, afterNumber, entrySoundness, entriesSoundness, volumeSoundness}
 use Rattle.soundness.proofs.Completions.{Checks, Completes, volume-is, hopeless-fits}
 use Rattle.soundness.proofs.InNumber.{HasOne, Goes, goes-number, front-bytes, number-fits}
 

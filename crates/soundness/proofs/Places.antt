@@ -1,7 +1,7 @@
 -- The answer at a place of a string, in the form in which the loops over groups and over entries meet it. Assumes nothing.
 use mathlib.Core.Path.{_≡_, refl, sym, ap, _∙_}
-use mathlib.Core.List.{List, [], _∷_}
-use Prim.Native.Nat.{ℕ, zero, suc, _+_, _-_, _*_, _^_, _≤_, _<_}
+use mathlib.Core.List.{List, _∷_}
+use Prim.Native.Nat.{ℕ, suc, _+_, _-_, _*_, _^_, _≤_, _<_}
 use native.Mathlib.Nat.{mul-le-mul-left, mul-comm}
 use native.Mathlib.Numerals.{add-one}
 use native.Mathlib.Omega.{arith}
@@ -17,7 +17,7 @@ use Rattle.soundness.specs.declared.Soundness.the-variants as answer
 use Rattle.soundness.specs.Found.{either, hopelessBefore, groupsSoundness, numberSoundness, entrySoundness, entriesSoundness, volumeSoundness}
 use Rattle.soundness.proofs.InNumber.{least-with, groups-end, groups-last, groups-beyond, groups-more}
 
--- a place inside a string, and the bytes from there on
+-- hopeless before the bytes from place next + 1 on: at length next + 1
 pub hopeless-at : (s : List ℕ) (next : ℕ) → next < length s → hopelessBefore s (drop (next + 1) s) ≡ answer.Hopeless (next + 1)
 hopeless-at s next l =
     let e : length s - length (drop (next + 1) s) ≡ next + 1 = omega (arith, length-drop (next + 1) s) in rw e
@@ -60,7 +60,7 @@ module _ (s : List ℕ) (at most : ℕ) where
         same = rw (mul-comm weight 128) (at-group ∙ groups-more s most value weight group (drop (next + 1) s) h m);
       }
 
-    -- a group of such a number fits 63 bits
+    -- what such a number makes with its next group fits 63 bits
     pub group-fits : most < 2 ^ 32 → (d : ℕ) → d < 256 → (value + weight * d < 2 ^ 63) × (weight * 128 < 2 ^ 63)
     group-fits h d m = let p : weight * d ≤ weight * 255 = mul-le-mul-left weight (omega arith) in (omega (arith, c .can-be), omega (arith, c .can-be))
 

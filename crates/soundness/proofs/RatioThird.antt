@@ -1,25 +1,22 @@
 -- A ratio whose second group announces a third is hopeless at that group. Assumes nothing.
-use mathlib.Core.Path.{_≡_, refl, sym, ap, _∙_}
+use mathlib.Core.Path.{_≡_, ap, _∙_}
 use mathlib.Core.Bool.{true}
-use mathlib.Core.List.{List, [], _∷_, _++_, append-assoc}
-use Prim.Native.Nat.{ℕ, zero, suc, _+_, _-_, _*_, _≤_, _<_}
+use mathlib.Core.List.{List, [], _∷_, _++_}
+use Prim.Native.Nat.{ℕ, suc, _+_, _-_, _*_, _≤_, _<_}
 use native.Mathlib.Omega.{arith}
-use lib.ListN.{length, length-append}
-use Rattle.laws.specs.Result.{Result, refused, accepted, _>>=_}
-use Rattle.laws.proofs.Results.{no-refusal}
+use lib.ListN.{length}
+use Rattle.laws.specs.Result.{refused}
 use Rattle.laws.proofs.Lists.{append-below, cons-below}
 use Rattle.word.specs.Bytes.{AllBytes}
 use Rattle.varint.specs.Number.{number}
 use Rattle.varint.proofs.Groups.{number-bytes}
 use Rattle.volume.specs.declared.Entry.{Entry}
-use Rattle.volume.specs.Volume.{Range, inRange, countRange, minutesRange, litresRange, ratioRange, entryInRange, entriesInRange, entryString, entriesString}
-use Rattle.volume.specs.Calls.{ValueRead, EntryRead, readValue, readEntry}
+use Rattle.volume.specs.Volume.{inRange, countRange, minutesRange, litresRange, ratioRange, entriesInRange, entriesString}
+use Rattle.volume.specs.Calls.{readValue, readEntry}
 use Rattle.volume.proofs.Values.{range-holds}
 use Rattle.volume.proofs.Undo.{value-back, entry-back, string-cons, range-first, range-others, entries-bytes}
-use Rattle.soundness.specs.declared.Soundness.{Soundness}
-use Rattle.soundness.specs.declared.Soundness.the-variants as answer
 use Rattle.soundness.specs.Soundness.{Fits}
-use Rattle.soundness.specs.Found.{either, hopelessBefore, numberSoundness, entrySoundness, entriesSoundness, volumeSoundness}
+use Rattle.soundness.specs.Found.{hopelessBefore, numberSoundness, entriesSoundness, volumeSoundness}
 use Rattle.soundness.proofs.InNumber.{groups-more, groups-beyond, third-refused}
 use Rattle.soundness.proofs.InVolume.{volume-fits}
 use Rattle.soundness.proofs.Places.{in-entries, in-ratio, all-refused, all-accepted}

@@ -1,5 +1,6 @@
-// Where a volume became hopeless: whether a string is a volume, the beginning of one, or how many of its bytes make a beginning that no bytes can
-// complete. The entries are read as reading does; where one is refused, its numbers are read again, and the one that is refused group by group.
+// Where a volume became hopeless: whether a string is a volume, or the beginning of one, or else how many bytes its shortest beginning has that no
+// bytes can complete. The entries are read as reading does; where one is refused, its numbers are read again, and the one that is refused group by
+// group.
 ghost use mathlib.Core.Path.{_≡_};
 ghost use Prim.Native.Nat.{_≤_};
 ghost use lib.ListN.{length, drop};

@@ -3,7 +3,7 @@ use mathlib.Core.Path.{_≡_, refl, sym, ap, _∙_}
 use mathlib.Core.Bool.{Bool, true, _&&_}
 use mathlib.Core.List.{List, [], _∷_, _++_}
 use mathlib.Core.Logic.{_↔_}
-use Prim.Native.Nat.{ℕ, zero, suc, _-_, _*_, _≤_, _<_}
+use Prim.Native.Nat.{ℕ, zero, suc, _-_, _≤_}
 use native.Mathlib.Omega.{arith}
 use borrow.Author.Tests.{ltb-true}
 use lib.Dec.{ltb}
@@ -24,7 +24,7 @@ use Rattle.volume.proofs.Shows.{read-shows, read-accepts}
 use Rattle.volume.proofs.Undo.{volume-bytes, after-below}
 use Rattle.soundness.specs.declared.Soundness.{Soundness}
 use Rattle.soundness.specs.declared.Soundness.the-variants as answer
-use Rattle.soundness.specs.Soundness.{IsVolume, Completable, Fits}
+use Rattle.soundness.specs.Soundness.{Completable, Fits}
 use Rattle.soundness.specs.Found.{groupsSoundness, entrySoundness, entriesSoundness, volumeSoundness}
 use Rattle.soundness.proofs.Completions.{entries-volume}
 use Rattle.soundness.proofs.InVolume.{volume-fits}

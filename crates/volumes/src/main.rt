@@ -463,8 +463,8 @@ to one byte past the limit: 01 00 00 00 01: 1 at 67108860 mark 9 change 0 short 
     );
 }
 
-// Volumes, and strings that are cut: before the first number, after whole numbers, at both ends of what may follow, and inside numbers whose groups so
-// far leave some number in the range.
+// Volumes, and strings that are cut: before the first number, after whole numbers, also at the ends of their ranges, and inside numbers, after groups
+// that some number in the range begins with.
 fn sound_or_cut() {
     table::each(
         SOUND,
@@ -506,8 +506,8 @@ two entries, last byte missing: 02 00 e8 07 8d 04 04 0f a0 9c 01 e2 04:
     );
 }
 
-// Strings that are hopeless: at a last group, at a group after which no number in the range can follow, and at the first byte after the last entry.
-// Of two faults the first one counts.
+// Strings that are hopeless: at a last group, at a group that announces another where no number in the range begins with these groups, and at the
+// first byte after the last entry. Of two faults the first one counts.
 fn hopeless() {
     table::each(
         HOPELESS,

@@ -1,4 +1,4 @@
-// Volumes of 2,000 entries, written and read, their duty, and the soundness of each beginning of one; and lists of more.
+// Volumes of 2,000 entries, written and read, and their duty; one with a byte after it, its soundness and that of its beginnings; and lists of more.
 ghost use Prim.Native.Nat.{_≤_};
 ghost use lib.ListN.{length};
 use crate::beginnings::judges;

@@ -1,8 +1,8 @@
 // Tables of cases, in text. A line is a case: its name up to `:`, the bytes of a volume, or of a table of rates, in hexadecimal, each after a space,
 // up to `:`, and numbers in other text. For reading and writing these are the size of what is lent, the refusal number, which is 0 where the case is
 // accepted, and the numbers of entries. A refused case has no entries to read, or no bytes to write. For the duty they are the refusal number and the
-// cents, for rates the refusal number and, where it is 0, the eight rates. For a string that is hopeless it is the length at which it became so, and
-// for one that is sound or cut there is none. A number is below 2^32.
+// cents, for rates the refusal number and, where it is 0, the eight rates. For a string that is hopeless there is one number, the length at which it
+// became so, and for one that is sound or cut there is none. A number is below 2^32.
 ghost use Prim.Native.Nat.{_≤_};
 ghost use lib.ListN.{length};
 use crate::beginnings::judges;
