@@ -51,15 +51,6 @@ all-suc n s =
     ∙ same-lines read _ _ (λ first. block-in-block (readPairs n (first .pair .product) (first .rest)) _ _)
     ∙ sym (block-in-block read _ (all n)))
 
-abbrev stop : ℕ → Left → Result (List ℕ)
-stop m _ = refused m
-
-all-refused : (n : ℕ) (s : Left) (m : ℕ) → turn s ≡ refused m → all (suc n) s ≡ refused m
-all-refused n s m e = all-suc n s ∙ rw e
-
-all-accepted : (n : ℕ) (s t : Left) → turn s ≡ accepted t → all (suc n) s ≡ all n t
-all-accepted n s t e = all-suc n s ∙ rw e
-
 -- the table before the first pair
 abbrev pub atFirst : List ℕ → Left
 atFirst string = record { last = 0; rest = string; cents = replicate 8 0 }
@@ -69,18 +60,18 @@ module _ (n : ℕ) (whole : List ℕ) where
   Filling k last rest cents = all n (atFirst whole) ≡ all (n - k) (record { last = last; rest = rest; cents = cents })
 
   pub filling-starts : Filling 0 0 whole (replicate 8 0)
-  filling-starts = Turns.starts turn stop all all-refused all-accepted n (atFirst whole)
+  filling-starts = Turns.result-starts turn all all-suc n (atFirst whole)
 
   module _ (k last : ℕ) (rest cents : List ℕ) (come : Filling k last rest cents) where
     pub filling-turns : {first : PairRead} → k < n → readPair last rest ≡ accepted first
         → Filling (k + 1) (first .pair .product) (first .rest) (set cents (first .pair .product - 1) (first .pair .rate))
-    filling-turns l e = Turns.turns turn stop all all-refused all-accepted n (atFirst whole) k _ come l (rw e)
+    filling-turns l e = Turns.result-turns turn all all-suc n (atFirst whole) k _ come l (rw e)
 
     filling-refused : {m : ℕ} → k < n → readPair last rest ≡ refused m → all n (atFirst whole) ≡ refused m
-    filling-refused l e = Turns.stops turn stop all all-refused all-accepted n (atFirst whole) k _ come l (rw e)
+    filling-refused l e = Turns.result-refused turn all all-suc n (atFirst whole) k _ come l (rw e)
 
     filling-ends : n ≤ k → all n (atFirst whole) ≡ ((refuse 24 unless isEmpty rest) >> accepted cents)
-    filling-ends l = Turns.ends turn stop all all-refused all-accepted n (atFirst whole) k _ come l ∙ all-zero (record { last = last; rest = rest; cents = cents })
+    filling-ends l = Turns.result-ends turn all all-suc n (atFirst whole) k _ come l ∙ all-zero (record { last = last; rest = rest; cents = cents })
 
 -- ---- the answer
 

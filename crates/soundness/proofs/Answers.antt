@@ -33,10 +33,13 @@ use Rattle.soundness.proofs.Places.{in-count, in-entries}
 completes-of : (string : List ℕ) → Completable string → Completes string
 completes-of string c = record { more = c .0; bytes = c .1; checks = checks-volume _ (c .2) }
 
+-- a volume needs no bytes to complete it
+volume-completes : (string : List ℕ) → IsVolume string → Completes string
+volume-completes string v = record { more = []; bytes = λ k. omega arith; checks = rw append-nil (checks-volume string v) }
+
 -- a volume completes each of its beginnings, and a string that can be completed has beginnings that can be
 pub volume-begins : (string : List ℕ) (n : ℕ) → AllBytes string → IsVolume string → Completable (take n string)
-volume-begins string n bytes v =
-    shorter string n bytes (record { more = []; bytes = λ k. omega arith; checks = rw append-nil (checks-volume string v) })
+volume-begins string n bytes v = shorter string n bytes (volume-completes string v)
 
 pub begins : (string : List ℕ) (n : ℕ) → AllBytes string → Completable string → Completable (take n string)
 begins string n bytes c = shorter string n bytes (completes-of string c)
@@ -103,9 +106,8 @@ pub after-volume : (string : List ℕ) (b : ℕ) (rest : List ℕ) → AllBytes 
     → Fits (string ++ (b ∷ rest)) (answer.Hopeless (suc (length string)))
 after-volume string b rest bytes v =
     let w = volume-was string _ bytes (read-shows string (v .0) (v .1) (v .2) .entries-are) in
-    let c : Completes string = record { more = []; bytes = λ k. omega arith; checks = rw append-nil (checks-volume string v) } in
     let e : length (string ++ (b ∷ rest)) - length rest ≡ suc (length string) = omega (arith, length-append string (b ∷ rest)) in
-    rw e at (hopeless-fits string rest b bytes c (λ more _ q. volume-alone _ b more (w .count-in) (w .in-range) (rw (w .string-is) at q)))
+    rw e at (hopeless-fits string rest b bytes (volume-completes string v) (λ more _ q. volume-alone _ b more (w .count-in) (w .in-range) (rw (w .string-is) at q)))
 
 -- ---- the empty string
 
@@ -113,10 +115,11 @@ empty-refused : checkVolume [] ≡ refused 16
 unfolding checkVolume entriesIn readValue readGroups
 empty-refused = refl
 
+empty-completable : Completable []
+empty-completable = let c = empty-completes in (c .more, c .bytes, volume-is _ (c .checks))
+
 pub empty-cut : Fits [] answer.Cut
-empty-cut =
-    let c = empty-completes in
-    ((λ v. no-refusal (sym (checks-volume [] v) ∙ empty-refused)), λ n l. begins [] n (λ k. omega arith) (c .more, c .bytes, volume-is _ (c .checks)))
+empty-cut = ((λ v. no-refusal (sym (checks-volume [] v) ∙ empty-refused)), λ n l. begins [] n (λ k. omega arith) empty-completable)
 
 -- ---- a single byte begins a volume: it is a count, or the first group of one
 
@@ -146,7 +149,7 @@ one-byte b l =
     (below-or-not b 128))
 
 pub hopeless-least : (string : List ℕ) (n : ℕ) → AllBytes string → Fits string (answer.Hopeless n) → 2 ≤ n
-hopeless-least string zero bytes h = let c = empty-completes in absurd (h .1 (c .more, c .bytes, volume-is _ (c .checks)))
+hopeless-least string zero bytes h = absurd (h .1 empty-completable)
 hopeless-least [] (suc zero) bytes h = absurd (omega (arith, h .0))
 hopeless-least (b ∷ string) (suc zero) bytes h = absurd (h .1 (one-byte b (bytes 0)))
 hopeless-least string (suc (suc n)) bytes h = omega arith

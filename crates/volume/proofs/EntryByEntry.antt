@@ -67,32 +67,23 @@ module _ {A : Type 0} where
   all-suc : (n : ℕ) (s : Left A) → all (suc n) s ≡ (turn s >>= all n)
   all-suc n s = only-suc (s .value) n (s .rest) ∙ sym (block-in-block (readEntry (s .rest)) _ (all n))
 
-  abbrev stop : ℕ → Left A → Result A
-  stop m _ = refused m
-
-  all-refused : (n : ℕ) (s : Left A) (m : ℕ) → turn s ≡ refused m → all (suc n) s ≡ refused m
-  all-refused n s m e = all-suc n s ∙ rw e
-
-  all-accepted : (n : ℕ) (s t : Left A) → turn s ≡ accepted t → all (suc n) s ≡ all n t
-  all-accepted n s t e = all-suc n s ∙ rw e
-
   -- from where the loop has come it finds, with `left` for the value of the entries that are left, what it finds from the start
   module _ (value : List Entry → A) (n : ℕ) (whole : List ℕ) where
     abbrev pub Comes : ℕ → List ℕ → (left : List Entry → A) → Type 0
     Comes k rest left = entriesOnly value n whole ≡ entriesOnly left (n - k) rest
 
     pub only-starts : Comes 0 whole value
-    only-starts = Turns.starts turn stop all all-refused all-accepted n (from whole value)
+    only-starts = Turns.result-starts turn all all-suc n (from whole value)
 
     module _ (k : ℕ) (rest : List ℕ) (left : List Entry → A) (come : Comes k rest left) where
       pub only-turns : {first : EntryRead} → k < n → readEntry rest ≡ accepted first → Comes (k + 1) (first .rest) (after left (first .entry))
-      only-turns l r = Turns.turns turn stop all all-refused all-accepted n (from whole value) k (from rest left) come l (rw r)
+      only-turns l r = Turns.result-turns turn all all-suc n (from whole value) k (from rest left) come l (rw r)
 
       pub only-refused : {m : ℕ} → k < n → readEntry rest ≡ refused m → entriesOnly value n whole ≡ refused m
-      only-refused l r = Turns.stops turn stop all all-refused all-accepted n (from whole value) k (from rest left) come l (rw r)
+      only-refused l r = Turns.result-refused turn all all-suc n (from whole value) k (from rest left) come l (rw r)
 
       pub only-ends : n ≤ k → entriesOnly value n whole ≡ ((refuse 16 unless isEmpty rest) >> accepted (left []))
-      only-ends l = Turns.ends turn stop all all-refused all-accepted n (from whole value) k (from rest left) come l ∙ only-zero left rest
+      only-ends l = Turns.result-ends turn all all-suc n (from whole value) k (from rest left) come l ∙ only-zero left rest
 
 -- whether a place is at the string's end
 pub at-end : (string : List ℕ) (at : ℕ) → at ≡ length string → isEmpty (drop at string) ≡ true
