@@ -135,5 +135,18 @@ static int64_t soundness(const uint8_t *volume, size_t volume_bytes, size_t time
 #define soundness NULL
 #endif
 
+/* An earlier archive may have no comparison. */
+#ifdef HAS_COMPARISON
+static int64_t compare(const uint8_t *blender, size_t blender_bytes, const uint8_t *gauge, size_t gauge_bytes, size_t times)
+{
+    struct hc_part part = { 0, 0, 0 };
+    for (size_t i = 0; i < times; i++)
+        part = hc_compare_recordings(blender, blender_bytes, gauge, gauge_bytes);
+    return part.recording == HC_GAUGE ? -(int64_t)part.from : (int64_t)part.from;
+}
+#else
+#define compare NULL
+#endif
+
 const struct implementation COLUMN = { TITLE, create, set_up, cipher, 1, move, recover, write_checkpoint, load, write_volume, read_volume, duty,
-                                       soundness };
+                                       soundness, compare };

@@ -81,6 +81,17 @@ static void check_checkpoint(const struct implementation *const *all, size_t cou
     }
 }
 
+/* A volume against itself, and against one whose third entry, at byte 10, has a ratio that is smaller by 1, both ways and cut. */
+static void check_comparison(const struct implementation *it, const uint8_t *volume, size_t length, uint32_t *list, size_t numbers)
+{
+    uint8_t other[64];
+    list[10]--;
+    size_t n = it->write_volume(list, numbers, other, sizeof other, 1);
+    if (it->compare(volume, length, volume, length, 1) != (int64_t)length || it->compare(volume, length, other, n, 1) != -10 ||
+        it->compare(other, n, volume, length, 1) != 10 || it->compare(volume, length, other, n - 1, 1) != 0)
+        stop_volume(it, "the comparison of two volumes");
+}
+
 static void check_volume(const struct implementation *const *all, size_t count)
 {
     static const uint32_t entries[] = { 0, 0, 0, 1, 127, 128, 127, 8, 128, 16383, 128, 2, 1440, 16384, 10000, 3, 60, 99999, 525, 4 };
@@ -98,6 +109,8 @@ static void check_volume(const struct implementation *const *all, size_t count)
         /* 16383 * 128 * 95 / 10000, 16384 * 10000 * 95 / 10000 and 99999 * 525 * 60 / 10000, each cut down */
         if (all[k]->duty != NULL && all[k]->duty(found, length, 1) != 19921 + 1556480 + 314996)
             stop_volume(all[k], "the duty on a volume");
+        if (all[k]->compare != NULL)
+            check_comparison(all[k], found, length, list, NUMBERS);
         if (all[k]->soundness == NULL)
             continue;
         for (size_t n = 0; n <= length; n++)

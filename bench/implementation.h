@@ -35,6 +35,9 @@ struct implementation {
     int64_t (*duty)(const uint8_t *volume, size_t volume_bytes, size_t times);
     /* Takes the soundness of a string, so many times in a row, and returns 0 where it is sound, -1 where it is cut, else the hopeless length. */
     int64_t (*soundness)(const uint8_t *volume, size_t volume_bytes, size_t times);
+    /* Compares two recordings, so many times in a row, and returns the byte from which the blender's is handed back, or minus that byte of the
+     * gauge's; 0 where the pair is refused. */
+    int64_t (*compare)(const uint8_t *blender, size_t blender_bytes, const uint8_t *gauge, size_t gauge_bytes, size_t times);
 };
 
 #endif

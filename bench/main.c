@@ -142,6 +142,8 @@ static void print_goals(void)
     print_goal("duty: time / faster plain C, at most 2", "-     ", duty, duty <= 2);
     double soundness = against_fastest(SOUNDNESS, 0, PLAIN_GCC, PLAIN_CLANG);
     print_goal("soundness: time / faster plain C, at most 2", "-     ", soundness, soundness <= 2);
+    double comparing = against_fastest(COMPARE, 0, PLAIN_GCC, PLAIN_CLANG);
+    print_goal("compare: time / faster plain C, at most 2", "-     ", comparing, comparing <= 2);
 }
 
 /* Its argument is the number of rounds. */

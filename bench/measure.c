@@ -4,6 +4,7 @@
 
 #include <stdio.h>
 #include <stdlib.h>
+#include <string.h>
 #include <time.h>
 
 #define SMALL_POSITION 1001
@@ -27,6 +28,7 @@ const struct row_about about[ROWS] = {
     [READ_VOLUME] = { "read volume, 2,000 entries", MICROSECONDS, 20 },
     [DUTY] = { "duty on 2,000 entries", MICROSECONDS, 20 },
     [SOUNDNESS] = { "soundness of 2,000 entries", MICROSECONDS, 20 },
+    [COMPARE] = { "compare two of 2,000 entries", MICROSECONDS, 20 },
 };
 
 double seconds[ROWS][2][MOST_COLUMNS];
@@ -43,7 +45,7 @@ static uint8_t key[32] = { 1, 2, 3 }, iv[32] = { 4, 5, 6 };
 static uint8_t buffer[16777216];
 static uint8_t checkpoint[LONGEST_CHECKPOINT];
 static uint32_t entries[4 * VOLUME_ENTRIES], entries_read[4 * VOLUME_ENTRIES];
-static uint8_t volume[LONGEST_VOLUME];
+static uint8_t volume[LONGEST_VOLUME], gauge[LONGEST_VOLUME];
 
 /* The processor time of this process, which other work on the machine does not add to. */
 static double now(void)
@@ -55,7 +57,7 @@ static double now(void)
 
 int ciphers_of(enum row row)
 {
-    return row == WRITE_VOLUME || row == READ_VOLUME || row == DUTY || row == SOUNDNESS ? 1 : 2;
+    return row == WRITE_VOLUME || row == READ_VOLUME || row == DUTY || row == SOUNDNESS || row == COMPARE ? 1 : 2;
 }
 
 size_t bulk_bytes(enum row row)
@@ -92,6 +94,7 @@ static int has(const struct implementation *it, enum row row)
     case READ_VOLUME: return it->read_volume != NULL;
     case DUTY: return it->duty != NULL;
     case SOUNDNESS: return it->soundness != NULL;
+    case COMPARE: return it->compare != NULL;
     default: return call_bytes(row) >= it->least_call;
     }
 }
@@ -216,6 +219,17 @@ static double time_soundness(const struct implementation *it)
     return (now() - start) / (double)times;
 }
 
+/* The recordings are the same, so that each of their entries is compared. */
+static double time_compare(const struct implementation *it)
+{
+    size_t times = 16, length = it->write_volume(entries, 4 * VOLUME_ENTRIES, volume, sizeof volume, 1);
+    memcpy(gauge, volume, length);
+    double start = now();
+    if (it->compare(volume, length, gauge, length, times) != (int64_t)length)
+        abort();
+    return (now() - start) / (double)times;
+}
+
 static double time_row(struct engine *e, enum row row)
 {
     switch (row) {
@@ -230,6 +244,7 @@ static double time_row(struct engine *e, enum row row)
     case READ_VOLUME: return time_read_volume(e->it);
     case DUTY: return time_duty(e->it);
     case SOUNDNESS: return time_soundness(e->it);
+    case COMPARE: return time_compare(e->it);
     default: return time_cipher(e, call_bytes(row));
     }
 }

@@ -23,6 +23,7 @@ enum row {
     READ_VOLUME,
     DUTY,
     SOUNDNESS,
+    COMPARE,
     ROWS
 };
 

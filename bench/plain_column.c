@@ -92,5 +92,13 @@ static int64_t soundness(const uint8_t *volume, size_t volume_bytes, size_t time
     return found;
 }
 
+static int64_t compare(const uint8_t *blender, size_t blender_bytes, const uint8_t *gauge, size_t gauge_bytes, size_t times)
+{
+    int64_t from = 0;
+    for (size_t i = 0; i < times; i++)
+        from = plain_compare(blender, blender_bytes, gauge, gauge_bytes);
+    return from;
+}
+
 const struct implementation COLUMN = { TITLE, create, set_up, cipher, 1, move, recover, write_checkpoint, load, write_volume, read_volume, duty,
-                                       soundness };
+                                       soundness, compare };

@@ -1,6 +1,8 @@
-/* Volumes are read twice, as the archive does: once to check, and again to store, so that a refused call has stored nothing. For the duty and for
- * the soundness they are read once. */
+/* Volumes are read twice, as the archive does: once to check, and again to store, so that a refused call has stored nothing; or, of two recordings,
+ * to compare. For the duty and for the soundness they are read once. */
 #include "plain_volume.h"
+
+#include <string.h>
 
 #define MOST_ENTRIES 2000
 
@@ -52,21 +54,29 @@ static uint64_t read_entry(struct place *p, uint32_t entry[4])
     return 0;
 }
 
-struct plain_answer plain_read_volume(const uint8_t *volume, size_t volume_bytes, uint32_t *entries, size_t numbers)
+/* Reads a volume to its end; first is then the place of its first entry. */
+static uint64_t read_all(struct place *first, uint32_t *count)
 {
-    struct place p = { volume, volume + volume_bytes };
-    uint32_t count, entry[4];
-    uint64_t refusal = read_number(&p, 0, MOST_ENTRIES, &count);
+    uint32_t entry[4];
+    uint64_t refusal = read_number(first, 0, MOST_ENTRIES, count);
     if (refusal != 0)
-        return refused(refusal);
-    struct place first = p;
-    for (uint32_t k = 0; k < count; k++) {
+        return refusal;
+    struct place p = *first;
+    for (uint32_t k = 0; k < *count; k++) {
         refusal = read_entry(&p, entry);
         if (refusal != 0)
-            return refused(refusal);
+            return refusal;
     }
-    if (p.at != p.end)
-        return refused(16);
+    return p.at == p.end ? 0 : 16;
+}
+
+struct plain_answer plain_read_volume(const uint8_t *volume, size_t volume_bytes, uint32_t *entries, size_t numbers)
+{
+    struct place first = { volume, volume + volume_bytes };
+    uint32_t count;
+    uint64_t refusal = read_all(&first, &count);
+    if (refusal != 0)
+        return refused(refusal);
     if (numbers < 4 * (size_t)count)
         return refused(8);
     for (uint32_t k = 0; k < count; k++)
@@ -90,6 +100,22 @@ struct plain_answer plain_duty(const uint16_t *rates, const uint8_t *volume, siz
     if (p.at != p.end)
         return refused(16);
     return accepted(cents);
+}
+
+int64_t plain_compare(const uint8_t *blender, size_t blender_bytes, const uint8_t *gauge, size_t gauge_bytes)
+{
+    struct place b = { blender, blender + blender_bytes }, g = { gauge, gauge + gauge_bytes };
+    uint32_t blenders, gauges, one[4], other[4];
+    if (read_all(&b, &blenders) != 0 || read_all(&g, &gauges) != 0)
+        return 0;
+    for (uint32_t k = 0; k < blenders && k < gauges; k++) {
+        int64_t from = b.at - blender, there = g.at - gauge;
+        read_entry(&b, one);
+        read_entry(&g, other);
+        if (memcmp(one, other, sizeof one) != 0)
+            return other[2] < one[2] ? -there : from;
+    }
+    return blenders < gauges ? -(g.at - gauge) : b.at - blender;
 }
 
 enum soundness { SOUND, CUT, HOPELESS };

@@ -1,4 +1,5 @@
-/* The shift volume, the duty on it under a table of eight rates, and its soundness, in plain C, from requests (d), (e) and (j) of document 02. */
+/* The shift volume, the duty on it under a table of eight rates, its soundness, and the comparison of two, in plain C, from requests (d), (e), (j)
+ * and (k) of document 02. */
 #ifndef PLAIN_VOLUME_H
 #define PLAIN_VOLUME_H
 
@@ -16,5 +17,7 @@ struct plain_answer plain_read_volume(const uint8_t *volume, size_t volume_bytes
 struct plain_answer plain_duty(const uint16_t *rates, const uint8_t *volume, size_t volume_bytes);
 /* 0 where the string is a volume, -1 where it is cut, else the length of its shortest beginning that no bytes complete. */
 int64_t plain_soundness(const uint8_t *volume, size_t volume_bytes);
+/* The byte from which the blender's recording is handed back, or minus that byte of the gauge's; 0 where the pair is refused. */
+int64_t plain_compare(const uint8_t *blender, size_t blender_bytes, const uint8_t *gauge, size_t gauge_bytes);
 
 #endif

@@ -20,7 +20,7 @@ static struct call set_up = {"hc_set_up", 0}, cipher = {"hc_cipher", 0}, move = 
                    writing = {"hc_write", 0}, recover = {"hc_recover", 0}, load = {"hc_load", 0}, spent = {"hc_spent", 0},
                    write_volume = {"hc_write_volume", 0}, read_volume = {"hc_read_volume", 0}, encipher_volume = {"hc_encipher_volume", 0},
                    our_rates = {"hc_our_rates", 0}, load_rates = {"hc_load_rates", 0}, duty = {"hc_volume_duty", 0},
-                   soundness = {"hc_volume_soundness", 0};
+                   soundness = {"hc_volume_soundness", 0}, check_pair = {"hc_check_recordings", 0}, compare = {"hc_compare_recordings", 0};
 
 /* Makes a call with up to eight arguments, the last two on the stack, and keeps the most that it took. */
 static void measure(struct call *call, void *function, const uintptr_t arguments[8])
@@ -79,6 +79,32 @@ static void of_cipher(uint32_t code, size_t key_bytes, size_t words)
     }
 }
 
+/* A volume against itself, against each beginning of it, and against one with another entry, both ways. */
+static void of_recordings(const uint8_t *volume, size_t length, uint32_t *entries, size_t n)
+{
+    static uint8_t gauge[HC_VOLUME_BYTES];
+    struct hc_part part;
+    for (size_t other = 0; other < n; other += other < 16 ? 1 : 61) {
+        size_t fewer = hc_write_volume(entries, 4 * other, gauge, sizeof gauge).length;
+        MEASURE(check_pair, hc_check_recordings, AT(volume), length, AT(gauge), fewer);
+        MEASURE(compare, hc_compare_recordings, AT(&part), AT(volume), length, AT(gauge), fewer);
+        MEASURE(compare, hc_compare_recordings, AT(&part), AT(gauge), fewer, AT(volume), length);
+        entries[4 * other + 2] ^= 1; /* another ratio */
+        size_t changed = hc_write_volume(entries, 4 * n, gauge, sizeof gauge).length;
+        entries[4 * other + 2] ^= 1;
+        MEASURE(compare, hc_compare_recordings, AT(&part), AT(volume), length, AT(gauge), changed);
+        MEASURE(compare, hc_compare_recordings, AT(&part), AT(gauge), changed, AT(volume), length);
+        MEASURE(check_pair, hc_check_recordings, AT(volume), length, AT(gauge), changed - 1);
+        MEASURE(compare, hc_compare_recordings, AT(&part), AT(volume), length, AT(gauge), changed - 1);
+    }
+    MEASURE(check_pair, hc_check_recordings, AT(volume), length, AT(volume), length);
+    MEASURE(compare, hc_compare_recordings, AT(&part), AT(volume), length, AT(volume), length);
+    if (part.recording != HC_BLENDER || part.from != length || part.length != 0) {
+        printf("a volume of %zu entries was not compared with itself\n", n);
+        exit(1);
+    }
+}
+
 /* Volumes of none to 2,000 entries, whose numbers have one to three groups: written, read, and enciphered at the position that the last one left. */
 static void of_volumes(uint32_t code, size_t key_bytes, size_t words)
 {
@@ -106,6 +132,7 @@ static void of_volumes(uint32_t code, size_t key_bytes, size_t words)
             MEASURE(soundness, hc_volume_soundness, AT(volume), length);
             volume[at] ^= 0x80;
         }
+        of_recordings(volume, length, entries, n);
         uint64_t end = head.position + length;
         MEASURE(encipher_volume, hc_encipher_volume, AT(&head), AT(area), words, AT(volume), length);
         if (head.position != end) {
@@ -139,7 +166,8 @@ static void of_rates(void)
 int main(void)
 {
     const struct call *calls[] = {&set_up, &cipher, &move, &checkpoint_length, &writing, &recover, &load, &spent,
-                                  &write_volume, &read_volume, &encipher_volume, &our_rates, &load_rates, &duty, &soundness};
+                                  &write_volume, &read_volume, &encipher_volume, &our_rates, &load_rates, &duty, &soundness,
+                                  &check_pair, &compare};
     of_cipher(HC_128, HC_128_KEY_BYTES, HC_128_AREA_WORDS);
     of_cipher(HC_256, HC_256_KEY_BYTES, HC_256_AREA_WORDS);
     of_volumes(HC_128, HC_128_KEY_BYTES, HC_128_AREA_WORDS);

@@ -4,10 +4,11 @@
  * lock and does no input or output, so every call is reentrant, and two engines may be used by two threads at once. From the C library it needs
  * memcpy and memset.
  *
- * Every call but hc_our_rates and hc_volume_soundness, which are never refused, returns 0 (HC_OK) or the number of its first refusal, in the order
- * given at the call. A refused call changes nothing: the head, the area, the table of rates and every byte and number that you lent keep their
- * values. Keys, IVs and keystream are bytes; an area is 32-bit words; a position counts bytes. No structure below has padding, so a call writes no
- * byte of a head, of a table of rates or of what it returns that is not the value of a field.
+ * Every call but three returns 0 (HC_OK) or the number of its first refusal, in the order given at the call. hc_our_rates and hc_volume_soundness are
+ * never refused; for hc_compare_recordings the number is what hc_check_recordings returns. A refused call changes nothing: the head, the area, the
+ * table of rates and every byte and number that you lent keep their values. Keys, IVs and keystream are bytes; an area is 32-bit words; a position
+ * counts bytes. No structure below has padding, so a call writes no byte of a head, of a table of rates or of what it returns that is not the value
+ * of a field.
  *
  * Your obligations, which C cannot check and the proofs take for granted:
  *   - A pointer is not null and points to as many elements as the length after it says, or to one structure where there is none, aligned for its
@@ -151,7 +152,8 @@ struct hc_count {
 };
 
 /* A table of rates: the rate of product p is cents[p - 1], in cents per litre. The table in use is yours. Start with what hc_our_rates returns and
- * not with zeros, under which nothing is owed, and let hc_load_rates replace it. Any eight 16-bit numbers are a table, also eight that you made up. */
+ * not with zeros, under which nothing is owed, and let hc_load_rates replace it. Any eight 16-bit numbers are a table, also eight that you made
+ * up. */
 struct hc_rates {
     uint16_t cents[HC_PRODUCTS];
 };
@@ -174,6 +176,21 @@ enum hc_soundness_answer {
  * beginning has that can't be completed, 2 to HC_VOLUME_BYTES + 1; it is 0 for one that is sound or cut. */
 struct hc_soundness {
     uint64_t answer;
+    size_t length;
+};
+
+/* Which of two recordings of one run, each a volume: the blender's log or the tank gauge's. */
+enum hc_recording {
+    HC_BLENDER = 0,
+    HC_GAUGE = 1
+};
+
+/* What hc_compare_recordings returns, part of one of the two buffers: it begins at buffer[from] and has length bytes. recording is one of enum
+ * hc_recording. All three are 0 where the pair is refused: the empty beginning of the blender's buffer. Where it is not, from is 1 at least and the
+ * part goes to the end of its buffer; so from is 0 exactly where the pair is refused. */
+struct hc_part {
+    uint64_t recording;
+    size_t from;
     size_t length;
 };
 
@@ -289,6 +306,32 @@ struct hc_duty hc_volume_duty(const struct hc_rates *rates, const uint8_t *volum
  *     0x01 0x00 0x64 0x90 0xCE 0x01 hopeless at 5: a ratio has no third group
  */
 struct hc_soundness hc_volume_soundness(const uint8_t *volume, size_t volume_bytes);
+
+/* Check recordings: whether hc_compare_recordings takes this pair. blender and gauge are a volume each and no byte more, and not enciphered.
+ * Refusals: 16, 14, 15 as hc_read_volume for the blender's recording, then 16, 14, 15 for the gauge's. Stack: 96 bytes. */
+uint64_t hc_check_recordings(const uint8_t *blender, size_t blender_bytes, const uint8_t *gauge, size_t gauge_bytes);
+
+/* Compare recordings: goes through both recordings of one run, entry by entry, up to the first place where they don't have the same entry, and
+ * returns the part of one of them from there to its end. Entries are the same where all four numbers are; the counts in front are not compared. The
+ * part is of
+ *     the recording that goes on, where the other has ended;
+ *     else the one whose ratio there is the smaller, and the blender's where the ratios are equal;
+ *     the blender's, where both have ended: its empty end, so that from is blender_bytes and length is 0.
+ * Refusals: those of hc_check_recordings, which returns the number; here all three fields are then 0. Stack: 272 bytes.
+ *
+ * Where the recordings first differ:
+ *
+ *     refusal = hc_check_recordings(blender, blender_bytes, gauge, gauge_bytes);
+ *     if (refusal == HC_OK) {
+ *         struct hc_part part = hc_compare_recordings(blender, blender_bytes, gauge, gauge_bytes);
+ *         const uint8_t *rest = (part.recording == HC_GAUGE ? gauge : blender) + part.from; // part.length bytes, whole entries
+ *     }
+ *
+ *     blender 0x01 0x00 0x64 0x06 0x01, gauge 0x01 0x00 0x64 0x05 0x01    HC_GAUGE, from 1, 4 bytes: ratio 5 is smaller than 6
+ *     blender 0x01 0x00 0x64 0x05 0x01, gauge 0x01 0x00 0x63 0x05 0x01    HC_BLENDER, from 1, 4 bytes: the litres differ, and the ratios are equal
+ *     blender 0x00,                     gauge 0x01 0x00 0x64 0x05 0x01    HC_GAUGE, from 1, 4 bytes: the blender's has ended
+ */
+struct hc_part hc_compare_recordings(const uint8_t *blender, size_t blender_bytes, const uint8_t *gauge, size_t gauge_bytes);
 
 #ifdef __cplusplus
 }

@@ -1,7 +1,8 @@
 /* The first program to write: log blend ratios, keep a checkpoint, go on from it elsewhere, and read everything back without the key. On the way it shows
  * that a look back at an old entry leaves what is spent, that a refused call changes nothing, and that a head is refused with an area that was copied
  * too early. At the end a shift's entries are written as a volume, enciphered, deciphered and read, and their duty is worked out, under our rates and
- * under a refinery's own; and strings that are no volumes are told apart: those that are only cut, and those that became hopeless. */
+ * under a refinery's own; strings that are no volumes are told apart: those that are only cut, and those that became hopeless; and the tank gauge's
+ * recording of the same run is held against it. */
 #include <inttypes.h>
 #include <stdio.h>
 #include <stdlib.h>
@@ -29,6 +30,7 @@ NO_PADDING(hc_count, SIZE(hc_count, refusal) + SIZE(hc_count, count));
 NO_PADDING(hc_duty, SIZE(hc_duty, refusal) + SIZE(hc_duty, cents));
 NO_PADDING(hc_rates, SIZE(hc_rates, cents));
 NO_PADDING(hc_soundness, SIZE(hc_soundness, answer) + SIZE(hc_soundness, length));
+NO_PADDING(hc_part, SIZE(hc_part, recording) + SIZE(hc_part, from) + SIZE(hc_part, length));
 NO_PADDING(engine, SIZE(engine, head) + SIZE(engine, area));
 
 static void check(const char *call, uint64_t refusal)
@@ -65,7 +67,43 @@ static void show_soundness(const char *what, const uint8_t *string, size_t n)
         printf("%s: %s\n", what, found.answer == HC_SOUND ? "sound" : "cut");
 }
 
+/* Holds the tank gauge's recording against the blender's: shows the bytes of one of them from the first entry that they don't both have. */
+static void show_difference(const char *what, const uint8_t *blender, size_t blender_bytes, const uint8_t *gauge, size_t gauge_bytes)
+{
+    uint64_t refusal = hc_check_recordings(blender, blender_bytes, gauge, gauge_bytes);
+    struct hc_part part = hc_compare_recordings(blender, blender_bytes, gauge, gauge_bytes);
+    if (refusal != HC_OK) {
+        struct hc_part beginning = {HC_BLENDER, 0, 0};
+        check_same("the part of a refused pair", &beginning, &part, sizeof part);
+        printf("%s: refused with %" PRIu64 "\n", what, refusal);
+        return;
+    }
+    printf("%s: the %s's from byte %zu:", what, part.recording == HC_GAUGE ? "gauge" : "blender", part.from);
+    show("", (part.recording == HC_GAUGE ? gauge : blender) + part.from, part.length);
+}
+
 #define ENTRIES 2
+
+/* The gauge writes the same two entries, then a smaller ratio in the second, then the first entry alone, then other litres in the first; and a volume
+ * that is cut is refused. */
+static void hold_against_gauge(const uint32_t *entries, const uint8_t *blender, size_t blender_bytes)
+{
+    uint32_t others[ENTRIES * HC_ENTRY_NUMBERS];
+    static uint8_t gauge[HC_VOLUME_BYTES];
+    memcpy(others, entries, sizeof others);
+    size_t n = hc_write_volume(others, ENTRIES * HC_ENTRY_NUMBERS, gauge, sizeof gauge).length;
+    show_difference("the gauge has the same entries", blender, blender_bytes, gauge, n);
+    others[HC_ENTRY_NUMBERS + 2] = 600;
+    n = hc_write_volume(others, ENTRIES * HC_ENTRY_NUMBERS, gauge, sizeof gauge).length;
+    show_difference("its second ratio is 600", blender, blender_bytes, gauge, n);
+    n = hc_write_volume(others, HC_ENTRY_NUMBERS, gauge, sizeof gauge).length;
+    show_difference("it has the first entry alone", blender, blender_bytes, gauge, n);
+    show_difference("the blender has the first entry alone", gauge, n, blender, blender_bytes);
+    others[1] = 999;
+    n = hc_write_volume(others, ENTRIES * HC_ENTRY_NUMBERS, gauge, sizeof gauge).length;
+    show_difference("its first entry has 999 litres", blender, blender_bytes, gauge, n);
+    show_difference("the gauge's is cut", blender, blender_bytes, gauge, n - 1);
+}
 
 /* A refinery loads its own rates, and the duty is then worked out under them. A table that is refused leaves every byte of the one in use. */
 static void own_rates(const uint8_t *volume, size_t volume_bytes)
@@ -172,6 +210,10 @@ static void log_shift(void)
     show_soundness("with a byte more", volume, written.length + 1);
     volume[5] |= 0x80;
     show_soundness("with the top bit of its sixth byte set", volume, written.length);
+
+    written = hc_write_volume(entries, ENTRIES * HC_ENTRY_NUMBERS, volume, sizeof volume);
+    check("write volume", written.refusal);
+    hold_against_gauge(entries, volume, written.length);
 }
 
 int main(void)

@@ -52,6 +52,14 @@ pub struct HcSoundness {
     pub length: usize,
 }
 
+#[repr(C)]
+#[derive(Clone, Copy)]
+pub struct HcPart {
+    pub recording: u64,
+    pub from: usize,
+    pub length: usize,
+}
+
 // Each structure is as long as its fields together, so it has no padding.
 const _: () = assert!(size_of::<HcHead>() == 4 + 4 + 8 + 8);
 const _: () = assert!(size_of::<HcLength>() == 8 + 8);
@@ -60,6 +68,7 @@ const _: () = assert!(size_of::<HcCount>() == 8 + 8);
 const _: () = assert!(size_of::<HcRates>() == 8 * 2);
 const _: () = assert!(size_of::<HcDuty>() == 8 + 8);
 const _: () = assert!(size_of::<HcSoundness>() == 8 + 8);
+const _: () = assert!(size_of::<HcPart>() == 8 + 8 + 8);
 
 extern "C" {
     pub fn hc_set_up(
@@ -94,4 +103,6 @@ extern "C" {
     pub fn hc_load_rates(rates: *mut HcRates, string: *const u8, string_bytes: usize) -> u64;
     pub fn hc_volume_duty(rates: *const HcRates, volume: *const u8, volume_bytes: usize) -> HcDuty;
     pub fn hc_volume_soundness(volume: *const u8, volume_bytes: usize) -> HcSoundness;
+    pub fn hc_check_recordings(blender: *const u8, blender_bytes: usize, gauge: *const u8, gauge_bytes: usize) -> u64;
+    pub fn hc_compare_recordings(blender: *const u8, blender_bytes: usize, gauge: *const u8, gauge_bytes: usize) -> HcPart;
 }

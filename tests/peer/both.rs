@@ -1,9 +1,10 @@
 //! One engine and one table of rates held twice, by the archive and by the peer; each call is made on both and everything is
 //! compared.
 
-use crate::archive::{self, HcCount, HcDuty, HcHead, HcLength, HcRates, HcSoundness, HcWords};
+use crate::archive::{self, HcCount, HcDuty, HcHead, HcLength, HcPart, HcRates, HcSoundness, HcWords};
 use crate::calls::{self, Head};
 use crate::ciphers::{self, Cipher};
+use crate::comparison::{self as recordings, Found, Part, Recording, Why};
 use crate::duty;
 use crate::lent::Lent;
 use crate::rates::{self, Rates};
@@ -12,6 +13,7 @@ use crate::tally::Tally;
 use crate::volume::{self, Fault};
 use std::fmt::{Debug, LowerHex};
 use std::mem::transmute;
+use std::ops::Range;
 
 /// The answer on which both sides agree, or the text of a difference.
 pub type Agreed<T> = Result<Result<T, u64>, String>;
@@ -164,6 +166,21 @@ fn fault_beside_reading(refusal: u64, bytes: usize, returned: HcSoundness) -> Op
     };
     let HcSoundness { answer, length } = returned;
     (!is_right).then(|| format!("archive: soundness says {answer} with length {length}, read volume {refusal}"))
+}
+
+/// What is wrong with the archive's two answers for a pair of recordings, one beside the other. Only a refused pair has the empty
+/// beginning of the blender's buffer. Any other part goes to the end of its buffer, and it is empty just where the recordings have
+/// the same bytes.
+fn fault_beside_check(refusal: u64, returned: HcPart, blender: &[u8], gauge: &[u8]) -> Option<String> {
+    let HcPart { recording, from, length } = returned;
+    let is_of = |buffer: &[u8]| from > 0 && from.checked_add(length) == Some(buffer.len());
+    let is_right = match recording {
+        0 if refusal != 0 => from == 0 && length == 0,
+        0 => is_of(blender) && (length == 0) == (blender == gauge),
+        1 => refusal == 0 && is_of(gauge) && length > 0,
+        _ => false,
+    };
+    (!is_right).then(|| format!("archive: check says {refusal}, compare {recording} with length {length} from {from}"))
 }
 
 /// Whether a string is refused with 14 for its last byte, without which it ends early.
@@ -949,6 +966,150 @@ impl<'t> Both<'t> {
                 let is_between = is_in_entry && 0 < entry && entry + 1 < entries;
                 special(is_between, "soundness, hopeless between two other entries");
                 special(is_in_entry && entries == 2_000, "soundness of 2,000 entries, hopeless");
+            }
+        }
+    }
+    /// Check recordings and compare recordings, where the two strings lie apart from one another in memory.
+    pub fn compare_recordings(&mut self, blender: &[u8], gauge: &[u8]) -> Agreed<Part> {
+        let between = vec![BYTE_GUARD; 32 + (self.calls / 16 % 16) as usize];
+        let memory = [blender, &between, gauge].concat();
+        let start = blender.len() + between.len();
+        self.compare_recordings_in(&memory, 0..blender.len(), start..memory.len())
+    }
+
+    /// Check recordings and compare recordings, where the two strings are parts of one memory; they may overlap. The calls take
+    /// neither head nor area; both are compared all the same. What is agreed on is the part of an accepted pair, or the refusal.
+    pub fn compare_recordings_in(&mut self, memory: &[u8], blender: Range<usize>, gauge: Range<usize>) -> Agreed<Part> {
+        let strings = [&memory[blender.clone()], &memory[gauge.clone()]];
+        let texts = strings.map(in_full);
+        let mut comparison = self.begin(format!("check and compare recordings, blender {}, gauge {}", texts[0], texts[1]));
+        let mut lent = self.lend(memory);
+        let memory_pointer = lent.pointer();
+        let pointers = [&blender, &gauge].map(|string| unsafe { memory_pointer.add(string.start) });
+        let [blender_bytes, gauge_bytes] = strings.map(|string| string.len());
+        let check = || unsafe { archive::hc_check_recordings(pointers[0], blender_bytes, pointers[1], gauge_bytes) };
+        let compare = || unsafe { archive::hc_compare_recordings(pointers[0], blender_bytes, pointers[1], gauge_bytes) };
+        // Each of the two calls is the first one for every other pair.
+        let (refusal, returned) = if self.calls % 2 == 0 {
+            let refusal = check();
+            (refusal, compare())
+        } else {
+            let returned = compare();
+            (check(), returned)
+        };
+        let found = recordings::of(strings[0], strings[1]);
+        let result = found.as_ref().map(|found| found.part).map_err(|fault| fault.refusal());
+        let part = result.unwrap_or(recordings::OF_REFUSED);
+        comparison.equal("answer", plain(refusal), result.map(|_| ()));
+        let numbers = [returned.recording, returned.from as u64, returned.length as u64];
+        comparison.equal("recording, from and length", numbers, part.numbers());
+        let returned_bytes = unsafe { transmute::<HcPart, [u8; 24]>(returned) };
+        comparison.equal_bytes("returned structure", &returned_bytes, &bytes_of_numbers(&part.numbers()));
+        comparison.differences.extend(fault_beside_check(refusal, returned, strings[0], strings[1]));
+        comparison.equal_lists("memory of the recordings", lent.content(), memory);
+        comparison.guards("memory of the recordings", &lent);
+        let read = strings.map(|string| self.read_by_archive(string));
+        let of_reading = number(&read[0].as_ref().and(read[1].as_ref()).map_err(|refusal| *refusal));
+        if refusal != of_reading {
+            comparison.differences.push(format!("archive: check says {refusal}, read volume {of_reading}"));
+        }
+        if let ([Ok(blender), Ok(gauge)], true) = (&read, comparison.differences.is_empty()) {
+            // The rest is a volume where the count of its entries is put in front of it.
+            let (entries, string) = if returned.recording == 0 { (blender, strings[0]) } else { (gauge, strings[1]) };
+            let rest = &entries[4 * recordings::first_difference(blender, gauge)..];
+            let count = calls::groups_of(rest.len() as u64 / 4);
+            let volume = [&count[..], &string[returned.from..returned.from + returned.length]].concat();
+            comparison.equal("entries of the part", self.read_by_archive(&volume), Ok(rest.to_vec()));
+        }
+        self.end(comparison)?;
+        self.count_recordings(strings, found);
+        Ok(result)
+    }
+
+    /// The entries that the archive's read volume puts into a list that is long enough, or its refusal.
+    fn read_by_archive(&self, string: &[u8]) -> Result<Vec<u32>, u64> {
+        let mut lent = self.lend(string);
+        // Each number has at least one byte, so as many numbers as there are bytes are enough.
+        let mut list = self.lend_list(&vec![0; string.len()]);
+        let read = unsafe { archive::hc_read_volume(lent.pointer(), string.len(), list.pointer(), string.len()) };
+        plain(read.refusal).map(|_| list.content()[..4 * read.count as usize].to_vec())
+    }
+
+    /// Counts a pair of recordings, for which both calls were made.
+    fn count_recordings(&mut self, strings: [&[u8]; 2], found: Result<Found, Fault>) {
+        let refusals = strings.map(|string| volume::entries_of(string).err().map(Fault::refusal));
+        let answer = match refusals {
+            [None, None] => "accepted".to_string(),
+            [Some(refusal), None] => format!("{refusal} for the blender's alone"),
+            [None, Some(refusal)] => format!("{refusal} for the gauge's alone"),
+            [Some(refusal), Some(other)] => format!("{refusal} for the blender's, {other} for the gauge's"),
+        };
+        self.tally.call("check recordings", &answer, None);
+        let Ok(Found { blender, gauge, same, why, part }) = found else {
+            self.tally.call("compare recordings", "refused", None);
+            self.count_refused_recordings(strings);
+            return;
+        };
+        let recording = if part.recording == Recording::Blender { "blender's" } else { "gauge's" };
+        let answer = match why {
+            Why::BothEnded => "both ended",
+            Why::OtherEnded => "the other ended",
+            Why::SmallerRatio => "smaller ratio",
+            Why::EqualRatios => "equal ratios",
+        };
+        self.tally.call("compare recordings", &format!("{recording}, {answer}"), None);
+        let mut special = |holds: bool, what: &str| {
+            if holds {
+                self.tally.special(&format!("recordings, {what}"), None);
+            }
+        };
+        let [of_blender, of_gauge] = [&blender, &gauge].map(|entries| entries.len() / 4);
+        let [in_blender, in_gauge] = [of_blender, of_gauge].map(|count| calls::groups_of(count as u64).len());
+        let is_after_same = same > 0 && why != Why::BothEnded;
+        special(is_after_same, &format!("counts of {in_blender} and {in_gauge} bytes, {recording}"));
+        special(of_blender == 0 && of_gauge == 0, "no entries in both");
+        special(of_blender == 0 && of_gauge > 0, "no entries in the blender's alone");
+        special(of_gauge == 0 && of_blender > 0, "no entries in the gauge's alone");
+        special(same == 2_000, "the same 2,000 entries");
+        let there = (recordings::entry_at(&blender, same), recordings::entry_at(&gauge, same));
+        let (Some(blenders), Some(gauges)) = there else { return };
+
+        let different: Vec<usize> = (0..4).filter(|number| blenders[*number] != gauges[*number]).collect();
+        let what = match different[..] {
+            [number] => ["minutes differ", "litres differ", "ratio differs", "product differs"][number],
+            _ => "several numbers differ",
+        };
+        special(true, &format!("{what}, {recording}"));
+        let [fewest, most] = [of_blender.min(of_gauge), of_blender.max(of_gauge)];
+        special(same == 0 && fewest > 1, &format!("first of several differs, {recording}"));
+        special(0 < same && same + 1 < fewest, &format!("one between others differs, {recording}"));
+        special(0 < same && same + 1 == most && fewest == most, &format!("last of several differs, {recording}"));
+        let is_last = |count: usize, other: usize| same + 1 == count && count < other;
+        special(is_last(of_blender, of_gauge), &format!("blender's alone ends there, {recording}"));
+        special(is_last(of_gauge, of_blender), &format!("gauge's alone ends there, {recording}"));
+        special(same == 1_999, "last of 2,000 differs");
+        let [ratio, other] = [blenders, gauges].map(|entry| calls::groups_of(entry[2] as u64));
+        special(blenders[2] < gauges[2] && ratio > other, "smaller ratio, greater bytes, blender's");
+        special(gauges[2] < blenders[2] && other > ratio, "smaller ratio, greater bytes, gauge's");
+        special(blenders[2] < gauges[2] && blenders[1] > gauges[1], "smaller ratio, more litres, blender's");
+        special(gauges[2] < blenders[2] && gauges[1] > blenders[1], "smaller ratio, more litres, gauge's");
+        let after = same + 1;
+        let has_entry_more = |of: &[u32], other: &[u32]| after < of.len() / 4 && of[4 * after..] == other[4 * same..];
+        special(has_entry_more(&gauge, &blender), "an entry missing in the blender's");
+        special(has_entry_more(&blender, &gauge), "an entry missing in the gauge's");
+        let is_same_after = fewest == most && after < fewest && blender[4 * after..] == gauge[4 * after..];
+        special(is_same_after, "the same after a different entry");
+    }
+
+    /// Counts a refused pair of recordings: whether the entries before the faults are the same.
+    fn count_refused_recordings(&mut self, strings: [&[u8]; 2]) {
+        let [blender, gauge] = strings.map(volume::entries_before_fault);
+        let same = recordings::first_difference(&blender, &gauge);
+        let is_different = same < blender.len().min(gauge.len()) / 4;
+        for (string, recording) in strings.into_iter().zip(["blender's", "gauge's"]) {
+            if volume::entries_of(string).is_err() {
+                let place = if is_different { "after a difference" } else { "before any difference" };
+                self.tally.special(&format!("recordings, {recording} fault {place}"), None);
             }
         }
     }

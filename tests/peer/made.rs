@@ -1,10 +1,11 @@
 //! Cases made by hand, with the answer that document 01, request (a) or (g) of document 02 or the C header gives for each. Those
 //! of request (b) are in marks.rs, those of (d) in volumes.rs, those of (e) in duties.rs, those of (f) in effects.rs, those of (j)
-//! in soundnesses.rs and those of (n) in rate_tables.rs and rate_duties.rs.
+//! in soundnesses.rs, those of (k) in comparisons.rs and those of (n) in rate_tables.rs and rate_duties.rs.
 
 use crate::both::{Agreed, Both};
 use crate::calls::{self, Head, FRESH, LIMIT};
 use crate::ciphers::{self, Cipher};
+use crate::comparisons;
 use crate::duties;
 use crate::effects;
 use crate::marks;
@@ -691,5 +692,6 @@ pub fn run(seed: u64, tally: &mut Tally) -> Result<(), String> {
     effects::run(tally)?;
     rate_tables::run(tally)?;
     rate_duties::run(tally)?;
-    soundnesses::run(tally)
+    soundnesses::run(tally)?;
+    comparisons::run(tally)
 }

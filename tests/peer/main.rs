@@ -5,6 +5,8 @@ mod beginnings;
 mod both;
 mod calls;
 mod ciphers;
+mod comparison;
+mod comparisons;
 mod count;
 mod duties;
 mod duty;
@@ -14,6 +16,7 @@ mod lists;
 mod made;
 mod marks;
 mod random;
+mod random_comparisons;
 mod random_rates;
 mod random_soundnesses;
 mod random_volumes;
@@ -47,6 +50,9 @@ const RATES_PER_LIST: u64 = 10;
 
 /// How many random strings there are for each random list, whose soundness is taken.
 const STRINGS_PER_LIST: u64 = 4;
+
+/// How many random pairs of recordings there are for each random list.
+const PAIRS_PER_LIST: u64 = 4;
 
 /// A number from the command line, or its default.
 fn argument(place: usize, default: u64) -> Result<u64, String> {
@@ -97,6 +103,12 @@ fn compare(seed: u64, lists: u64) -> Result<(), String> {
         random_soundnesses::run(seed, number, &mut random).map_err(|text| format!("random string {number}, {text}"))?;
     }
     println!("{strings} random strings: no difference");
+
+    let pairs = PAIRS_PER_LIST * lists;
+    for number in 0..pairs {
+        random_comparisons::run(seed, number, &mut random).map_err(|text| format!("random pair {number}, {text}"))?;
+    }
+    println!("{pairs} random pairs of recordings: no difference");
     let faults = random.print_and_check();
     if !faults.is_empty() {
         return Err(faults.join("\n"));

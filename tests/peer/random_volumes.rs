@@ -16,7 +16,7 @@ const FIRST_STREAM: u64 = 1 << 32;
 const GROUP_EDGES: [u32; 4] = [127, 128, 16_383, 16_384];
 
 /// A value in the range of a number: at one of its ends, where it gets another group, or any.
-fn value(random: &mut Random, number: &Number) -> u32 {
+pub fn value(random: &mut Random, number: &Number) -> u32 {
     let edge = random.pick(&GROUP_EDGES);
     match random.below(6) {
         0 => number.smallest,
@@ -58,7 +58,7 @@ fn count(random: &mut Random) -> u64 {
 }
 
 /// So many entries, sometimes all alike.
-fn entries(random: &mut Random, count: u64) -> Vec<u32> {
+pub fn entries(random: &mut Random, count: u64) -> Vec<u32> {
     if random.once_in(4) {
         let entry: Vec<u32> = ENTRY.iter().map(|number| value(random, number)).collect();
         return entry.repeat(count as usize);

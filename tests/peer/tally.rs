@@ -93,8 +93,40 @@ const SOUNDNESS: [(&str, Where); 26] = [
     ("hopeless, bytes after the last entry", Neither),
 ];
 
+/// The answers of the check of two recordings: accepted, refused for one of them, and refused for the blender's where the gauge's
+/// would be refused, too.
+const RECORDINGS: [(&str, Where); 16] = [
+    ("accepted", Neither),
+    ("14 for the blender's alone", Neither),
+    ("15 for the blender's alone", Neither),
+    ("16 for the blender's alone", Neither),
+    ("14 for the gauge's alone", Neither),
+    ("15 for the gauge's alone", Neither),
+    ("16 for the gauge's alone", Neither),
+    ("14 for the blender's, 14 for the gauge's", Neither),
+    ("14 for the blender's, 15 for the gauge's", Neither),
+    ("14 for the blender's, 16 for the gauge's", Neither),
+    ("15 for the blender's, 14 for the gauge's", Neither),
+    ("15 for the blender's, 15 for the gauge's", Neither),
+    ("15 for the blender's, 16 for the gauge's", Neither),
+    ("16 for the blender's, 14 for the gauge's", Neither),
+    ("16 for the blender's, 15 for the gauge's", Neither),
+    ("16 for the blender's, 16 for the gauge's", Neither),
+];
+
+/// The parts that the comparison of two recordings hands back, and why.
+const PARTS: [(&str, Where); 7] = [
+    ("blender's, the other ended", Neither),
+    ("gauge's, the other ended", Neither),
+    ("blender's, smaller ratio", Neither),
+    ("gauge's, smaller ratio", Neither),
+    ("blender's, equal ratios", Neither),
+    ("blender's, both ended", Neither),
+    ("refused", Neither),
+];
+
 /// For each call the answers that it must give.
-const EXPECTED: [(&str, &[(&str, Where)]); 18] = [
+const EXPECTED: [(&str, &[(&str, Where)]); 20] = [
     ("set up", &[("accepted", Ciphers), ("1", Neither), ("2", Ciphers), ("3", Ciphers), ("4", Ciphers)]),
     ("cipher", &[("accepted", Ciphers), ("1", Neither), ("4", Ciphers), ("5", Ciphers), ("13", Ciphers), ("6", Ciphers)]),
     (
@@ -153,6 +185,8 @@ const EXPECTED: [(&str, &[(&str, Where)]); 18] = [
     ("load rates", &[("accepted", Neither)]),
     ("load rates", &NO_RATES),
     ("volume soundness", &SOUNDNESS),
+    ("check recordings", &RECORDINGS),
+    ("compare recordings", &PARTS),
     (
         "encipher volume",
         &[
@@ -239,7 +273,7 @@ const SPECIAL: [&str; 63] = [
 ];
 
 /// Calls of special interest that must occur where the code names no cipher or the call takes none.
-const SPECIAL_WITHOUT_CIPHER: [&str; 75] = [
+const SPECIAL_WITHOUT_CIPHER: [&str; 117] = [
     "14, 15 or 16 before 1 in encipher volume",
     "write volume of no entries",
     "write volume of 2,000 entries",
@@ -315,6 +349,48 @@ const SPECIAL_WITHOUT_CIPHER: [&str; 75] = [
     "soundness, hopeless between two other entries",
     "soundness of a completed beginning",
     "soundness of a lengthened hopeless beginning",
+    "recordings, counts of 1 and 1 bytes, blender's",
+    "recordings, counts of 1 and 1 bytes, gauge's",
+    "recordings, counts of 1 and 2 bytes, blender's",
+    "recordings, counts of 1 and 2 bytes, gauge's",
+    "recordings, counts of 2 and 1 bytes, blender's",
+    "recordings, counts of 2 and 1 bytes, gauge's",
+    "recordings, counts of 2 and 2 bytes, blender's",
+    "recordings, counts of 2 and 2 bytes, gauge's",
+    "recordings, no entries in both",
+    "recordings, no entries in the blender's alone",
+    "recordings, no entries in the gauge's alone",
+    "recordings, the same 2,000 entries",
+    "recordings, minutes differ, blender's",
+    "recordings, litres differ, blender's",
+    "recordings, ratio differs, blender's",
+    "recordings, ratio differs, gauge's",
+    "recordings, product differs, blender's",
+    "recordings, several numbers differ, blender's",
+    "recordings, several numbers differ, gauge's",
+    "recordings, first of several differs, blender's",
+    "recordings, first of several differs, gauge's",
+    "recordings, one between others differs, blender's",
+    "recordings, one between others differs, gauge's",
+    "recordings, last of several differs, blender's",
+    "recordings, last of several differs, gauge's",
+    "recordings, blender's alone ends there, blender's",
+    "recordings, blender's alone ends there, gauge's",
+    "recordings, gauge's alone ends there, blender's",
+    "recordings, gauge's alone ends there, gauge's",
+    "recordings, last of 2,000 differs",
+    "recordings, smaller ratio, greater bytes, blender's",
+    "recordings, smaller ratio, greater bytes, gauge's",
+    "recordings, smaller ratio, more litres, blender's",
+    "recordings, smaller ratio, more litres, gauge's",
+    "recordings, an entry missing in the blender's",
+    "recordings, an entry missing in the gauge's",
+    "recordings, the same after a different entry",
+    "recordings, blender's fault after a difference",
+    "recordings, blender's fault before any difference",
+    "recordings, gauge's fault after a difference",
+    "recordings, gauge's fault before any difference",
+    "recordings, one buffer as both",
 ];
 
 #[derive(Default)]
@@ -347,7 +423,7 @@ impl Tally {
     pub fn print_and_check(&self) -> Vec<String> {
         let mut faults = Vec::new();
         let mut left = self.counts.clone();
-        println!("{:<17} {:<49} {:>8} {:>8} {:>8}", "call", "answer", COLUMNS[0], COLUMNS[1], COLUMNS[2]);
+        println!("{:<18} {:<51} {:>8} {:>8} {:>8}", "call", "answer", COLUMNS[0], COLUMNS[1], COLUMNS[2]);
         let of_ciphers = SPECIAL.iter().map(|what| (*what, Ciphers));
         let of_neither = SPECIAL_WITHOUT_CIPHER.iter().map(|what| (*what, Neither));
         let special: Vec<(&str, Where)> = of_ciphers.chain(of_neither).collect();
@@ -355,7 +431,7 @@ impl Tally {
         for (call, answers) in rows {
             for (answer, place) in answers {
                 let counts = left.remove(&(call.to_string(), answer.to_string())).unwrap_or_default();
-                println!("{:<17} {:<49} {:>8} {:>8} {:>8}", call, answer, counts[0], counts[1], counts[2]);
+                println!("{:<18} {:<51} {:>8} {:>8} {:>8}", call, answer, counts[0], counts[1], counts[2]);
                 for k in 0..3 {
                     let expected = *place == All || (*place == Ciphers) == (k < 2);
                     if expected && counts[k] == 0 {

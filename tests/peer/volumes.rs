@@ -146,7 +146,7 @@ pub fn longer(bytes: &[u8], more: usize) -> Vec<u8> {
 
 /// Bytes that are at fault in the place of a number, with the refusal that they get: 14 for a group of 0 too many, 14 for a third
 /// group that announces another, 15 for a value out of range, and 14 for one out of range with a group of 0 too many.
-fn faults(place: usize) -> Vec<(Vec<u8>, u64)> {
+pub fn faults(place: usize) -> Vec<(Vec<u8>, u64)> {
     let over: &[&[u8]] = match place {
         0 => &[&[0xD1, 0x0F]],
         _ => match (place - 1) % 4 {

@@ -63,7 +63,7 @@ module _ {B C : Type 0} where
   after-unless n true r e other k = k refl e
   after-unless n false r e other k = absurd (other (sym e))
 
-zero-or-not : (n : ℕ) → (n ≡ 0) ⊎ (n ≡ 0 → ⊥)
+pub zero-or-not : (n : ℕ) → (n ≡ 0) ⊎ (n ≡ 0 → ⊥)
 zero-or-not zero = inl refl
 zero-or-not (suc n) = inr (λ e. omega arith)
 

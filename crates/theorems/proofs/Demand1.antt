@@ -13,6 +13,7 @@ use Rattle.rates.specs.Calls.{loadRates, loadRatesCall}
 use Rattle.soundness.specs.Found.{volumeSoundness}
 use Rattle.soundness.proofs.InVolume.{volume-fits}
 use Rattle.duty.specs.Calls.{volumeDuty, volumeDutyCall}
+use Rattle.comparison.specs.Comparison.{compareRecordings, compareRecordingsCall}
 use Rattle.checkpoint.specs.Checkpoint.{mostGroups, lengthOf}
 use Rattle.conditions.specs.Limit.{limit}
 use Rattle.conditions.specs.Conditions.{setUpCheck, headCheck, cipherCheck, within, endOf, moveCheck, undoAt, foundOr12, recoverCheck, positionRead, firstByte, loadCheck}
@@ -21,7 +22,7 @@ use Rattle.theorems.specs.Demand1.{Demand1}
 use Rattle.theorems.proofs.Within.{by-none, first, after, then-line, line-unless, line-without, first-line, answers, word-within, head-within, found-within, end-within, position-within, volume-within, rates-within}
 
 pub demand1 : Demand1
-unfolding setUpCall setUp setUpCheck cipherCall cipher cipherCheck encipherVolumeCall encipherVolume moveCall move moveCheck endOf writeCall write checkpointLengthCall checkpointLength recoverCall recover recoverCheck loadCall load loadCheck spentCall spent writeVolumeCall writeVolume readVolumeCall readVolume volumeDutyCall volumeDuty loadRatesCall
+unfolding setUpCall setUp setUpCheck cipherCall cipher cipherCheck encipherVolumeCall encipherVolume moveCall move moveCheck endOf writeCall write checkpointLengthCall checkpointLength recoverCall recover recoverCheck loadCall load loadCheck spentCall spent writeVolumeCall writeVolume readVolumeCall readVolume volumeDutyCall volumeDuty loadRatesCall compareRecordingsCall compareRecordings
 demand1 = record {
   of-set-up = λ h code key iv area.
       answers _ (setUp code key iv area)
@@ -105,4 +106,8 @@ demand1 = record {
       (then-line (entriesIn string) _ (volume-within first (after first) (after (after first)) string) λ entries. by-none);
   of-load-rates = λ inUse string. answers inUse (loadRates string) (rates-within first (after first) string);
   of-volume-soundness = λ string bytes. (volumeSoundness string, volume-fits string bytes);
+  of-compare-recordings = λ blender gauge.
+      answers _ (compareRecordings blender gauge)
+      (then-line (entriesIn blender) _ (volume-within first (after first) (after (after first)) blender) λ blenders.
+      then-line (entriesIn gauge) _ (volume-within first (after first) (after (after first)) gauge) λ gauges. by-none);
 }

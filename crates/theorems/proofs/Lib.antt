@@ -26,3 +26,4 @@ pub mod Demand3
 pub mod CheckpointLength
 pub mod Refusal12
 pub mod Demand2
+pub mod BlenderAgainstGauge

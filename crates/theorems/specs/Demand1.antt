@@ -1,5 +1,6 @@
 -- Demand 1: every call, for all bytes, lengths, positions and tables, is accepted with 0, or answers one of its own refusal numbers and leaves
--- head, tables, the table of rates in use and every lent byte as they were. Volume soundness has no refusals, and its answer is no refusal number.
+-- head, tables, the table of rates in use and every lent byte as they were. Volume soundness has no refusals, and its answer is no refusal number. Of
+-- two recordings one call answers the number, and another hands back the part.
 use mathlib.Core.Path.{_≡_}
 use mathlib.Core.List.{List, [], _∷_, List·Memᴰ}
 use mathlib.Core.Logic.{_⊎_}
@@ -11,6 +12,8 @@ use Rattle.rates.specs.Calls.{loadRates, loadRatesCall}
 use Rattle.duty.specs.Calls.{volumeDuty, volumeDutyCall}
 use Rattle.soundness.specs.declared.Soundness.{Soundness}
 use Rattle.soundness.specs.Soundness.{Fits}
+use Rattle.comparison.specs.declared.Part.the-variants as part
+use Rattle.comparison.specs.Comparison.{compareRecordings, compareRecordingsCall}
 use Rattle.laws.specs.Result.{Result, refused, accepted, Outcome}
 use Rattle.word.specs.Bytes.{AllBytes}
 use Rattle.engine.specs.declared.Head.{Head}
@@ -25,7 +28,7 @@ module _ {A : Type 0} where
     pub outcome-is : o ≡ record { refusal = 0; value = new }
 
   -- the call is refused: its refusal is one of these numbers, and what it leaves is `old`: head, area, table of rates in use and lent bytes as they
-  -- were, and 0 for what the call returns
+  -- were, and 0 for what the call returns, or the empty beginning of the blender's buffer
   pub record Refused (numbers : List ℕ) (old : A) (result : Result A) (o : Outcome A) : Type 0 where
     pub number : ℕ
     pub one-of : List·Memᴰ number numbers
@@ -78,3 +81,9 @@ pub record Demand1 : Type 0 where
       (inUse string : List ℕ) → AcceptedOrRefused (24 ∷ 25 ∷ 24 ∷ []) inUse (loadRates string) (loadRatesCall inUse string)
   -- Volume soundness has no refusals: for every string of bytes there is an answer that fits. No other does: `one-answer` of WhereHopeless.
   pub of-volume-soundness : (string : List ℕ) → AllBytes string → (s : Soundness) × Fits string s
+  -- Of the outcome of two recordings one call gives the refusal, and the other the part: the empty beginning of the blender's buffer where the pair
+  -- is refused.
+  pub of-compare-recordings :
+      (blender gauge : List ℕ)
+      → AcceptedOrRefused (16 ∷ 14 ∷ 15 ∷ 16 ∷ 16 ∷ 14 ∷ 15 ∷ 16 ∷ []) (part.Blender 0 0)
+      (compareRecordings blender gauge) (compareRecordingsCall blender gauge)

@@ -17,3 +17,4 @@ pub mod ComponentDuty
 pub mod ReadingEffect
 pub mod RefineryRates
 pub mod WhereHopeless
+pub mod BlenderAgainstGauge

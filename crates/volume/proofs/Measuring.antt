@@ -7,20 +7,13 @@ use native.Mathlib.Omega.{arith}
 use lib.ListN.{length, drop, length-append}
 use lib.Seq.{sets}
 use Rattle.laws.specs.Result.{refused, accepted}
+use Rattle.laws.proofs.Same.{not-true, not-false}
 use Rattle.laws.proofs.Stores.{sets-append}
 use Rattle.varint.specs.Number.{number}
 use Rattle.volume.specs.declared.Entry.{Entry}
 use Rattle.volume.specs.Volume.{entryInRange, entriesInRange, entryString, entriesString, entriesOf}
 use Rattle.volume.specs.Found.{entryAt, entriesLength}
 use Rattle.volume.proofs.Entries.{entries-more, entries-none}
-
-not-false : (r : Bool) → not r ≡ false → r ≡ true
-not-false true e = refl
-not-false false e = sym e
-
-not-true : (r : Bool) → not r ≡ true → r ≡ false
-not-true true e = sym e
-not-true false e = refl
 
 -- an entry's bytes are those of its four numbers
 pub entry-length : (e : Entry)

@@ -161,7 +161,7 @@ entry-was string found bytes e =
       rest-bytes = p .rest-bytes;
     })
 
-entries-were : (n : ℕ) (string : List ℕ) (found : EntriesRead) → Bytes string → readEntries n string ≡ accepted found
+pub entries-were : (n : ℕ) (string : List ℕ) (found : EntriesRead) → Bytes string → readEntries n string ≡ accepted found
     → string ≡ entriesString (found .entries) ++ found .rest
 unfolding entriesString
 entries-were zero string found bytes e = rw (none-left string found e)

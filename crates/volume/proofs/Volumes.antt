@@ -69,7 +69,7 @@ module _ (string : List ℕ) (r : CountFound) (is : CountIs string r) where
   unfolding countIn
   entries-accepted h = counted (entriesIn string) (r .count) (is-accepted (r .refusal) (r .count) _ (is .count-is) h)
 
-  entries-found : r .refusal ≡ 0 → (entries : List Entry) → entriesIn string ≡ accepted entries
+  pub entries-found : r .refusal ≡ 0 → (entries : List Entry) → entriesIn string ≡ accepted entries
       → (found : EntriesRead) × (readEntries (r .count) (drop (r .first) string) ≡ accepted found) × (found .entries ≡ entries) × (found .rest ≡ [])
   unfolding entriesIn
   entries-found h entries e = whole-found (readEntries (r .count) (drop (r .first) string)) entries (rw (is .begins h) at e)

@@ -223,7 +223,7 @@ fn number_at(string: &[u8], at: usize) -> NumberFound
 }
 
 // The entry from place `at` on, of a volume that has been checked.
-fn read_entry(string: &[u8], at: usize) -> EntryFound
+pub fn read_entry(string: &[u8], at: usize) -> EntryFound
     requires { ⌜ at ≤ length (now string) ⌝ }
     ensures { λ r. ⌜ Found.EntryReadAgain (now (string .entry)) at r × (r .next ≤ length (now (string .entry))) ⌝ }
 {

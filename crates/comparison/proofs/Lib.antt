@@ -1,0 +1,4 @@
+pub mod Places
+pub mod Differences
+pub mod Answers
+pub mod Sames

@@ -1,0 +1,88 @@
+-- `comparison::first_difference` meets its contract. The loop keeps `Comes`. Assumes nothing.
+use mathlib.Core.Path.{_≡_, sym, _∙_}
+use Prim.Native.Nat.{_-_, _≤_}
+use native.Mathlib.Omega.{arith}
+use borrow.Author.Needs.{needs}
+use borrow.Author.Tests.{lt-ltb, le-ltb}
+use denote.Ref.{now}
+use lib.ListN.{length}
+use Rattle.laws.proofs.Same.{not-true, not-false}
+use Rattle.comparison.proofs.Differences.{Comes, starts, turns, smaller-ratio, other-ratio, gauge-has-ended, blender-has-ended}
+use Rattle.comparison.proofs.first_difference.Statement.{statement}
+use Rattle.comparison.proofs.first_difference.Tie as tie
+
+abbrev Inv-loop : tie.InvT-loop
+Inv-loop blender gauge n m blender-at₀ gauge-at₀ k₀ blender-at gauge-at k =
+    (k ≤ n) × (k ≤ m) × (blender-at ≤ length blender) × (gauge-at ≤ length gauge)
+    × Comes blender blender-at₀ n gauge gauge-at₀ m k blender-at gauge-at
+
+abbrev μ-loop : tie.MeasureT-loop
+μ-loop blender gauge n m blender-at₀ gauge-at₀ k₀ blender-at gauge-at k = n - k
+
+loop-holds : tie.Need-loop-holds Inv-loop μ-loop
+loop-holds c = (omega arith, omega arith, c .before .before .pre .0, c .before .before .pre .1, starts _ _ _ _ _ _)
+
+-- the gauge's has ended
+returns : tie.Need-returns Inv-loop μ-loop
+returns c =
+    let l = c .before .before .before .loop in
+    gauge-has-ended _ _ _ _ _ _ (l .k) _ _ (l .inv .4) _ (λ i. c .before .before .before .before .before .shared-slice-known .given i .fits) (l .inv .2) (omega arith)
+    (c .blender-rest .ensures)
+
+returns-2 : tie.Need-returns-2 Inv-loop μ-loop
+returns-2 c =
+    let l = c .before .before .before .before .before .before .before .before .before .before .loop in
+    let test = c .before .before .before .before .before .before .before .before .before .loop-test .taken in
+    let b = c .before .before .before .before .before .before .before .read-entry in
+    let g = c .before .before .before .before .before .before .read-entry2 in
+    smaller-ratio _ _ _ _ _ _ (l .k) _ _ (l .inv .4) test (omega arith) (b .result) (g .result) (b .ensures .0) (g .ensures .0)
+    (λ i. c .before .before .before .before .before .before .before .before .before .before .before .before .shared-slice-known .given i .fits)
+    (λ i. c .before .before .before .before .before .before .before .before .before .before .before .shared-slice-known2 .given i .fits)
+    (l .inv .2) (l .inv .3) (sym (c .before .before .before .before .before .same-entry .ensures) ∙ not-true _ (c .before .before .before .before .if2 .taken))
+    _ (c .gauge-rest .ensures) (lt-ltb _ _ (c .before .if3 .taken))
+
+returns-3 : tie.Need-returns-3 Inv-loop μ-loop
+returns-3 c =
+    let l = c .before .before .before .before .before .before .before .before .before .before .loop in
+    let test = c .before .before .before .before .before .before .before .before .before .loop-test .taken in
+    let b = c .before .before .before .before .before .before .before .read-entry in
+    let g = c .before .before .before .before .before .before .read-entry2 in
+    other-ratio _ _ _ _ _ _ (l .k) _ _ (l .inv .4) test (omega arith) (b .result) (g .result) (b .ensures .0) (g .ensures .0)
+    (λ i. c .before .before .before .before .before .before .before .before .before .before .before .before .shared-slice-known .given i .fits)
+    (λ i. c .before .before .before .before .before .before .before .before .before .before .before .shared-slice-known2 .given i .fits)
+    (l .inv .2) (l .inv .3) (sym (c .before .before .before .before .before .same-entry .ensures) ∙ not-true _ (c .before .before .before .before .if2 .taken))
+    _ (c .blender-rest2 .ensures) (le-ltb _ _ (c .before .if3 .left))
+
+loop-again : tie.Need-loop-again Inv-loop μ-loop
+loop-again c =
+    let l = c .before .before .before .before .before .before .loop in
+    let b = c .before .before .before .read-entry in
+    let g = c .before .before .read-entry2 in (
+      omega arith,
+      omega arith,
+      b .ensures .1,
+      g .ensures .1,
+      turns _ _ _ _ _ _ (l .k) _ _ (l .inv .4) (c .before .before .before .before .before .loop-test .taken) (omega arith) (b .result) (g .result)
+          (b .ensures .0) (g .ensures .0) (sym (c .before .same-entry .ensures) ∙ not-false _ (c .if2 .left)),
+    )
+
+-- the blender's has ended, and the gauge's goes on
+returns-4 : tie.Need-returns-4 Inv-loop μ-loop
+returns-4 c =
+    let l = c .before .before .before .loop in
+    blender-has-ended _ _ _ _ _ _ (l .k) _ _ (l .inv .4) _ (λ i. c .before .before .before .before .shared-slice-known2 .given i .fits) (l .inv .3) (omega arith)
+    (c .before .if4 .taken) (c .gauge-rest2 .ensures)
+
+-- both have ended
+returns-5 : tie.Need-returns-5 Inv-loop μ-loop
+returns-5 c =
+    let l = c .before .before .before .loop in
+    gauge-has-ended _ _ _ _ _ _ (l .k) _ _ (l .inv .4) _ (λ i. c .before .before .before .before .before .shared-slice-known .given i .fits) (l .inv .2) (omega arith)
+    (c .blender-rest3 .ensures)
+
+pub first-difference-spec : {M : Type 1} → statement M
+first-difference-spec =
+    let a₁ = tie.spec Inv-loop μ-loop loop-holds (λ c κs. search needs) returns in
+    let a₂ = a₁ (λ c κs. search needs) (λ c κs. search needs) (λ c κs. search needs) (λ c κs. search needs) returns-2 (λ c κs. search needs) returns-3 in
+    let a₃ = a₂ (λ c. omega arith) (λ c. omega arith) loop-again (λ c κs. search needs) returns-4 (λ c κs. search needs) returns-5 in
+    tie.close a₃
