@@ -5,7 +5,6 @@ use mathlib.Core.List.{List, [], _∷_}
 use mathlib.Core.Logic.{⊎-elim}
 use Prim.Native.Nat.{ℕ, suc, _+_, _≤_}
 use native.Mathlib.Omega.{arith}
-use borrow.Author.Tests.{eq-eqb, ne-eqb}
 use lib.Dec.{ltb}
 use lib.ListN.{length, drop}
 use Rattle.laws.specs.Result.{Result, refused, accepted, outcome, resultOf, _>>=_}
@@ -13,7 +12,7 @@ use Rattle.laws.proofs.Results.{zero-or-not}
 use Rattle.volume.specs.declared.Entry.{Entry}
 use Rattle.volume.specs.declared.reading.CountFound.{CountFound}
 use Rattle.volume.specs.Volume.{volumeString}
-use Rattle.volume.specs.Calls.{EntriesRead, readEntries, entriesIn, checkVolume}
+use Rattle.volume.specs.Calls.{entriesIn, checkVolume}
 use Rattle.volume.specs.Found.{CountIs}
 use Rattle.volume.proofs.Undo.{Bytes, volume-was}
 use Rattle.volume.proofs.Volumes.{read-accepted, unread-refused, entries-refused, entries-accepted, entries-found}

@@ -1,4 +1,4 @@
 pub mod Places
 pub mod Differences
 pub mod Answers
-pub mod Sames
+pub mod SameEntry

@@ -54,10 +54,10 @@ strings-split (suc k) (e ∷ entries) =
     append-assoc (entryString e) (entriesString (take k entries)) (entriesString (drop k entries))
     ∙ ap (λ (s : List ℕ). entryString e ++ s) (strings-split k entries)
 
--- an entry begins where the last entries do
-pub begins-last : (k : ℕ) (entries : List Entry) → entryBegins entries k ≡ lastEntries (length (volumeString entries)) (drop k entries)
+-- the bytes before an entry and from it on are those of the volume
+pub split-length : (k : ℕ) (entries : List Entry) → entryBegins entries k + bytesLeft entries k ≡ length (volumeString entries)
 unfolding volumeString
-begins-last k entries =
+split-length k entries =
     omega (
       arith,
       length-append (number (length entries)) (entriesString entries),
@@ -65,14 +65,10 @@ begins-last k entries =
       length-append (entriesString (take k entries)) (entriesString (drop k entries)),
     )
 
--- so many bytes are left there
+-- an entry begins where the last entries do, and so many bytes are left there
+pub begins-last : (k : ℕ) (entries : List Entry) → entryBegins entries k ≡ lastEntries (length (volumeString entries)) (drop k entries)
+begins-last k entries = omega (arith, split-length k entries)
+
 pub left-last : (k : ℕ) (entries : List Entry)
     → bytesLeft entries k ≡ length (volumeString entries) - lastEntries (length (volumeString entries)) (drop k entries)
-unfolding volumeString
-left-last k entries =
-    omega (
-      arith,
-      length-append (number (length entries)) (entriesString entries),
-      ap length (strings-split k entries),
-      length-append (entriesString (take k entries)) (entriesString (drop k entries)),
-    )
+left-last k entries = omega (arith, split-length k entries)

@@ -11,6 +11,7 @@ pub record Slice : Type 0 where
   pub begins : ℕ × ℕ
   pub bytes : List ℕ
 
+-- the slice that a reference points to
 abbrev pub sliceOf : RefT (List ℕ) → Slice
 sliceOf s = record { begins = s .ptr; bytes = s .now }
 
@@ -18,6 +19,7 @@ sliceOf s = record { begins = s .ptr; bytes = s .now }
 abbrev pub partOf : (buffer : RefT (List ℕ)) (from n : ℕ) → Slice
 partOf buffer from n = record { begins = (buffer .ptr .0, from + buffer .ptr .1); bytes = take n (drop from (buffer .now)) }
 
+-- a part, of the buffer that it names
 abbrev pub sliceIn : (blender gauge : RefT (List ℕ)) → Part → Slice
 sliceIn blender gauge (part.Blender from n) = partOf blender from n
 sliceIn blender gauge (part.Gauge from n) = partOf gauge from n

@@ -77,7 +77,7 @@ fn first_difference(blender: &[u8], blenders: CountFound, gauge: &[u8], gauges: 
     let mut k = 0;
     while k < n {
         if k == m {
-            return blender_rest(blender, blender_at);
+            return blender_rest(blender, blender_at); // the gauge's has ended
         }
         let b = read_entry(blender, blender_at);
         let g = read_entry(gauge, gauge_at);
@@ -92,9 +92,9 @@ fn first_difference(blender: &[u8], blenders: CountFound, gauge: &[u8], gauges: 
         k += 1;
     }
     if k < m {
-        return gauge_rest(gauge, gauge_at);
+        return gauge_rest(gauge, gauge_at); // the blender's has ended
     }
-    blender_rest(blender, blender_at)
+    blender_rest(blender, blender_at) // both have
 }
 
 // The part handed back of two recordings; the empty beginning of the blender's buffer where the pair is refused.

@@ -3,12 +3,12 @@ use mathlib.Core.Path.{_≡_, refl, sym, ap, ap₂, subst, _∙_}
 use mathlib.Core.Bool.{Bool, true, false, cond, false≢true}
 use mathlib.Core.List.{List, [], _∷_, _++_, append-assoc, append-nil}
 use mathlib.Core.Logic.{_↔_, _⊎_, inl, inr, ⊎-elim}
-use Prim.Native.Nat.{ℕ, zero, suc, _+_, _-_, _≤_, _<_}
+use Prim.Native.Nat.{ℕ, suc, _+_, _-_, _≤_, _<_}
 use native.Mathlib.Nat.{zero-add}
 use native.Mathlib.Omega.{arith}
 use borrow.Author.Tests.{lt-ltb, le-ltb, ltb-true, ltb-false}
 use lib.Dec.{ltb}
-use lib.ListN.{length, take, drop, replicate, length-append, length-drop, take-append-drop}
+use lib.ListN.{length, take, drop, length-append, length-drop, take-append-drop}
 use denote.Ref.{RefT}
 use lib.Seq.{take-length, drop-at, drop-length, length-take-le}
 use Rattle.laws.specs.Result.{Result, refused, accepted, Outcome, outcome, _>>=_}
@@ -25,8 +25,8 @@ use Rattle.comparison.specs.declared.Part.{Part}
 use Rattle.comparison.specs.declared.Part.the-variants as part
 use Rattle.comparison.specs.Comparison.{sameEntry, sameEntries, entryBegins, bytesLeft, choose, partFrom, compareRecordings, compareRecordingsCall}
 use Rattle.comparison.specs.Parts.{Slice, sliceIn}
-use Rattle.comparison.proofs.Places.{strings-split}
-use Rattle.comparison.proofs.Sames.{same-equal, equal-same}
+use Rattle.comparison.proofs.Places.{strings-split, split-length}
+use Rattle.comparison.proofs.SameEntry.{same-equal, equal-same}
 use Rattle.theorems.specs.ShiftVolume.{Volume}
 use Rattle.theorems.specs.BlenderAgainstGauge.{Differ, Rest, BlendersRest, GaugesRest, Chosen, Compared, fromOf, lengthOf, BlenderAgainstGauge}
 use Rattle.theorems.proofs.Within.{first, after, volume-within, among, within-not}
@@ -76,7 +76,7 @@ rest-is k entries =
     ∙ sym (append-assoc (number (length entries)) (entriesString (take k entries)) left) in
     let count = length-append (number (length entries)) (entriesString (take k entries)) in
     record {
-      to-end = sym (ap length whole ∙ length-append before left ∙ ap (λ (n : ℕ). n + length left) count);
+      to-end = split-length k entries;
       bytes-are = rw (whole, drop-at before left (entryBegins entries k) count) (take-length left);
     }
 

@@ -14,7 +14,7 @@ use Rattle.volume.specs.Calls.{readVolume}
 use Rattle.comparison.specs.declared.Part.{Part}
 use Rattle.comparison.specs.declared.Part.the-variants as part
 use Rattle.comparison.specs.Comparison.{compareRecordings, compareRecordingsCall}
-use Rattle.comparison.specs.Parts.{Slice, sliceIn}
+use Rattle.comparison.specs.Parts.{sliceIn}
 use Rattle.theorems.specs.ShiftVolume.{Volume}
 
 -- 'they don't have the same entry': there is no entry with which both begin

@@ -1,10 +1,9 @@
 -- `comparison::first_difference` meets its contract. The loop keeps `Comes`. Assumes nothing.
-use mathlib.Core.Path.{_≡_, sym, _∙_}
+use mathlib.Core.Path.{sym, _∙_}
 use Prim.Native.Nat.{_-_, _≤_}
 use native.Mathlib.Omega.{arith}
 use borrow.Author.Needs.{needs}
 use borrow.Author.Tests.{lt-ltb, le-ltb}
-use denote.Ref.{now}
 use lib.ListN.{length}
 use Rattle.laws.proofs.Same.{not-true, not-false}
 use Rattle.comparison.proofs.Differences.{Comes, starts, turns, smaller-ratio, other-ratio, gauge-has-ended, blender-has-ended}
