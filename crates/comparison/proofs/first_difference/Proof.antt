@@ -38,7 +38,7 @@ returns-2 c =
     (λ i. c .before .before .before .before .before .before .before .before .before .before .before .before .shared-slice-known .given i .fits)
     (λ i. c .before .before .before .before .before .before .before .before .before .before .before .shared-slice-known2 .given i .fits)
     (l .inv .2) (l .inv .3) (sym (c .before .before .before .before .before .same-entry .ensures) ∙ not-true _ (c .before .before .before .before .if2 .taken))
-    _ (c .gauge-rest .ensures) (lt-ltb _ _ (c .before .if3 .taken))
+    _ (c .gauge-rest .ensures) (lt-ltb (g .result .entry .ratio) (b .result .entry .ratio) (omega (arith, c .before .if3 .taken)))
 
 returns-3 : tie.Need-returns-3 Inv-loop μ-loop
 returns-3 c =
@@ -50,7 +50,7 @@ returns-3 c =
     (λ i. c .before .before .before .before .before .before .before .before .before .before .before .before .shared-slice-known .given i .fits)
     (λ i. c .before .before .before .before .before .before .before .before .before .before .before .shared-slice-known2 .given i .fits)
     (l .inv .2) (l .inv .3) (sym (c .before .before .before .before .before .same-entry .ensures) ∙ not-true _ (c .before .before .before .before .if2 .taken))
-    _ (c .blender-rest2 .ensures) (le-ltb _ _ (c .before .if3 .left))
+    _ (c .blender-rest2 .ensures) (le-ltb (g .result .entry .ratio) (b .result .entry .ratio) (omega (arith, c .before .if3 .left)))
 
 loop-again : tie.Need-loop-again Inv-loop μ-loop
 loop-again c =
