@@ -27,7 +27,7 @@ static void *create(int code)
     return s;
 }
 
-/* The benchmark gives no call that the archive would refuse. */
+/* The benchmark gives no call that the archive would refuse, but for a cut recording in check.c. */
 static void expect_accepted(uint64_t refusal)
 {
     if (refusal != HC_OK)

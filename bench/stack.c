@@ -79,7 +79,7 @@ static void of_cipher(uint32_t code, size_t key_bytes, size_t words)
     }
 }
 
-/* A volume against itself, against each beginning of it, and against one with another entry, both ways. */
+/* A volume against itself, against beginnings of it, against one with another ratio, both ways, and against that one cut. */
 static void of_recordings(const uint8_t *volume, size_t length, uint32_t *entries, size_t n)
 {
     static uint8_t gauge[HC_VOLUME_BYTES];
@@ -89,9 +89,9 @@ static void of_recordings(const uint8_t *volume, size_t length, uint32_t *entrie
         MEASURE(check_pair, hc_check_recordings, AT(volume), length, AT(gauge), fewer);
         MEASURE(compare, hc_compare_recordings, AT(&part), AT(volume), length, AT(gauge), fewer);
         MEASURE(compare, hc_compare_recordings, AT(&part), AT(gauge), fewer, AT(volume), length);
-        entries[4 * other + 2] ^= 1; /* another ratio */
+        entries[4 * other + 2] ^= 16; /* another ratio */
         size_t changed = hc_write_volume(entries, 4 * n, gauge, sizeof gauge).length;
-        entries[4 * other + 2] ^= 1;
+        entries[4 * other + 2] ^= 16;
         MEASURE(compare, hc_compare_recordings, AT(&part), AT(volume), length, AT(gauge), changed);
         MEASURE(compare, hc_compare_recordings, AT(&part), AT(gauge), changed, AT(volume), length);
         MEASURE(check_pair, hc_check_recordings, AT(volume), length, AT(gauge), changed - 1);
@@ -114,7 +114,7 @@ static void of_volumes(uint32_t code, size_t key_bytes, size_t words)
     struct hc_head head = {0};
     struct hc_rates rates = hc_our_rates();
     hc_set_up(&head, code, key, key_bytes, iv, key_bytes, area, words);
-    for (size_t n = 0; n <= HC_VOLUME_ENTRIES; n = 2 * n + 1) {
+    for (size_t n = 0; n <= HC_VOLUME_ENTRIES; n = n < HC_VOLUME_ENTRIES && 2 * n + 1 > HC_VOLUME_ENTRIES ? HC_VOLUME_ENTRIES : 2 * n + 1) {
         for (size_t i = 0; i < 4 * n; i++)
             entries[i] = kinds[i / 4 % 3][i % 4];
         MEASURE(write_volume, hc_write_volume, AT(entries), 4 * n, AT(volume), sizeof volume);

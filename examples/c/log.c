@@ -2,7 +2,7 @@
  * that a look back at an old entry leaves what is spent, that a refused call changes nothing, and that a head is refused with an area that was copied
  * too early. At the end a shift's entries are written as a volume, enciphered, deciphered and read, and their duty is worked out, under our rates and
  * under a refinery's own; strings that are no volumes are told apart: those that are only cut, and those that became hopeless; and the tank gauge's
- * recording of the same run is held against it. */
+ * recording of the same run is compared with the blender's. */
 #include <inttypes.h>
 #include <stdio.h>
 #include <stdlib.h>
@@ -67,7 +67,7 @@ static void show_soundness(const char *what, const uint8_t *string, size_t n)
         printf("%s: %s\n", what, found.answer == HC_SOUND ? "sound" : "cut");
 }
 
-/* Holds the tank gauge's recording against the blender's: shows the bytes of one of them from the first entry that they don't both have. */
+/* Compares the tank gauge's recording with the blender's, and shows the bytes of one of them from the first place where their entries differ. */
 static void show_difference(const char *what, const uint8_t *blender, size_t blender_bytes, const uint8_t *gauge, size_t gauge_bytes)
 {
     uint64_t refusal = hc_check_recordings(blender, blender_bytes, gauge, gauge_bytes);
@@ -84,9 +84,9 @@ static void show_difference(const char *what, const uint8_t *blender, size_t ble
 
 #define ENTRIES 2
 
-/* The gauge writes the same two entries, then a smaller ratio in the second, then the first entry alone, then other litres in the first; and a volume
- * that is cut is refused. */
-static void hold_against_gauge(const uint32_t *entries, const uint8_t *blender, size_t blender_bytes)
+/* The gauge writes the same two entries, then a smaller ratio in the second, then the first entry alone, both ways, then other litres in the first;
+ * and a volume that is cut is refused. */
+static void compare_with_gauge(const uint32_t *entries, const uint8_t *blender, size_t blender_bytes)
 {
     uint32_t others[ENTRIES * HC_ENTRY_NUMBERS];
     static uint8_t gauge[HC_VOLUME_BYTES];
@@ -213,7 +213,7 @@ static void log_shift(void)
 
     written = hc_write_volume(entries, ENTRIES * HC_ENTRY_NUMBERS, volume, sizeof volume);
     check("write volume", written.refusal);
-    hold_against_gauge(entries, volume, written.length);
+    compare_with_gauge(entries, volume, written.length);
 }
 
 int main(void)

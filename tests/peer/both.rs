@@ -969,6 +969,7 @@ impl<'t> Both<'t> {
             }
         }
     }
+
     /// Check recordings and compare recordings, where the two strings lie apart from one another in memory.
     pub fn compare_recordings(&mut self, blender: &[u8], gauge: &[u8]) -> Agreed<Part> {
         let between = vec![BYTE_GUARD; 32 + (self.calls / 16 % 16) as usize];

@@ -90,13 +90,14 @@ module _ (blender gauge : List ℕ) where
     unfolding compareRecordingsCall
     nothing-first h = rw (refused-first (entries-refused blender b b-is h))
 
-    pub nothing-second : (g : CountFound) → CountIs gauge g → b .refusal ≡ 0 → (g .refusal ≡ 0 → ⊥) → part.Blender 0 0 ≡ compareRecordingsCall blender gauge .value
+    pub nothing-second : (g : CountFound) → CountIs gauge g → b .refusal ≡ 0 → (g .refusal ≡ 0 → ⊥)
+        → part.Blender 0 0 ≡ compareRecordingsCall blender gauge .value
     unfolding compareRecordingsCall
     nothing-second g g-is z h = rw (refused-second (entries-accepted blender b b-is z .1) (entries-refused gauge g g-is h))
 
 -- the last entries of a recording are all its entries
-all-last : (string : List ℕ) (r : CountFound) (is : CountIs string r) (z : r .refusal ≡ 0) (entries : List Entry) → entriesIn string ≡ accepted entries
-    → Last string (r .first) (r .count) entries
+all-last : (string : List ℕ) (r : CountFound) (is : CountIs string r) (z : r .refusal ≡ 0) (entries : List Entry)
+    → entriesIn string ≡ accepted entries → Last string (r .first) (r .count) entries
 all-last string r is z entries e =
     let f = entries-found string r is z entries e in
     f .1 ∙ ap accepted (ap₂ (λ (x : List Entry) (y : List ℕ). record { entries = x; rest = y }) (f .2) (f .3))

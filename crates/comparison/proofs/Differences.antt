@@ -19,7 +19,7 @@ use Rattle.comparison.proofs.Places.{last-begin, last-none, First, last
 -- ---- the part of the last entries
 
 module _ (n m : ℕ) where
-  pub part-same : (b g : Entry) (blender gauge : List Entry) → sameEntry b g ≡ true
+  part-same : (b g : Entry) (blender gauge : List Entry) → sameEntry b g ≡ true
       → partOfLast n m (b ∷ blender) (g ∷ gauge) ≡ partOfLast n m blender gauge
   unfolding partOfLast
   part-same b g blender gauge e = rw e
@@ -46,8 +46,8 @@ module _ (n m : ℕ) where
 
 module _ (blender : List ℕ) (first n : ℕ) (gauge : List ℕ) (start m : ℕ) where
   -- the part of the last entries of both
-  abbrev partOf : (blenders gauges : List Entry) → Part
-  partOf = partOfLast (length blender) (length gauge)
+  abbrev partOfBoth : (blenders gauges : List Entry) → Part
+  partOfBoth = partOfLast (length blender) (length gauge)
 
   -- the entries that are left after k turns, of which the part is that of all
   pub record Left (blenders gauges : List Entry) (k at there : ℕ) : Type 0 where
@@ -55,7 +55,7 @@ module _ (blender : List ℕ) (first n : ℕ) (gauge : List ℕ) (start m : ℕ)
     pub gauges-left : List Entry
     pub blender-last : Last blender at (n - k) blenders-left
     pub gauge-last : Last gauge there (m - k) gauges-left
-    pub same-part : partOf blenders gauges ≡ partOf blenders-left gauges-left
+    pub same-part : partOfBoth blenders gauges ≡ partOfBoth blenders-left gauges-left
 
   abbrev pub Comes : (k at there : ℕ) → Type 0
   Comes k at there = (blenders gauges : List Entry) → Last blender first n blenders → Last gauge start m gauges → Left blenders gauges k at there
@@ -93,20 +93,20 @@ module _ (blender : List ℕ) (first n : ℕ) (gauge : List ℕ) (start m : ℕ)
             gauges-left = x .gauge-first .others;
             blender-last = x .blender-first .others-last;
             gauge-last = x .gauge-first .others-last;
-            same-part = x .left .same-part ∙ ap₂ partOf (x .blender-first .entries-are) (x .gauge-first .entries-are)
+            same-part = x .left .same-part ∙ ap₂ partOfBoth (x .blender-first .entries-are) (x .gauge-first .entries-are)
                 ∙ part-same _ _ (b .entry) (g .entry) _ _ e;
           }
 
       module _ (blender-bytes : Bytes blender) (gauge-bytes : Bytes gauge) (in-blender : at ≤ length blender) (in-gauge : there ≤ length gauge)
           (e : sameEntry (b .entry) (g .entry) ≡ false) where
         differs : (blenders gauges : List Entry) → Last blender first n blenders → Last gauge start m gauges
-            → partOf blenders gauges
+            → partOfBoth blenders gauges
             ≡ cond (ltb (g .entry .ratio) (b .entry .ratio)) (gaugeRest (length gauge) there) (blenderRest (length blender) at)
         differs blenders gauges p q =
             let x = next blenders gauges p q in
             let at-is = last-begin blender at (n - k) _ blender-bytes in-blender (x .left .blender-last) in
             let there-is = last-begin gauge there (m - k) _ gauge-bytes in-gauge (x .left .gauge-last) in
-            x .left .same-part ∙ ap₂ partOf (x .blender-first .entries-are) (x .gauge-first .entries-are)
+            x .left .same-part ∙ ap₂ partOfBoth (x .blender-first .entries-are) (x .gauge-first .entries-are)
             ∙ part-differs _ _ (b .entry) (g .entry) _ _ e
             ∙ ap₂ (λ (v w : ℕ). cond (ltb (g .entry .ratio) (b .entry .ratio)) (gaugeRest (length gauge) v) (blenderRest (length blender) w))
             (sym (rw (← x .gauge-first .entries-are) there-is)) (sym (rw (← x .blender-first .entries-are) at-is))
@@ -128,7 +128,8 @@ module _ (blender : List ℕ) (first n : ℕ) (gauge : List ℕ) (start m : ℕ)
           let at-is = last-begin blender at (n - k) _ bytes within (left .blender-last) in
           h ∙ sym (left .same-part ∙ rw (none, gauge-ended, ← at-is))
 
-      pub blender-has-ended : Bytes gauge → there ≤ length gauge → n ≤ k → k < m → r ≡ gaugeRest (length gauge) there → PartIs blender first n gauge start m r
+      pub blender-has-ended : Bytes gauge → there ≤ length gauge → n ≤ k → k < m → r ≡ gaugeRest (length gauge) there
+          → PartIs blender first n gauge start m r
       blender-has-ended bytes within l j h blenders gauges p q =
           let left = come blenders gauges p q in
           let x : n - k ≡ 0 = omega arith in

@@ -1,4 +1,4 @@
-// The comparison's part of the box's interface, for C, which has no slices to hand back: it gets the recording, the byte and the length.
+// The calls of the comparison for C, which has no slices to hand back: it gets the recording, the byte and the length.
 ghost use mathlib.Core.Path.{_≡_};
 ghost use Rattle.comparison.specs.Comparison as Comparison;
 use comparison::Part;

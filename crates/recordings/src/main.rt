@@ -2,7 +2,7 @@
 // product.
 use pairs::BLENDER;
 use pairs::GAUGE;
-use pairs::hands;
+use pairs::hands_back;
 use pairs::refuses;
 
 mod many;
@@ -10,8 +10,8 @@ mod pairs;
 
 // Both have ended, or one of them, which is then a beginning of the other.
 fn ended() {
-    hands(b"no entries, no entries", b"\x00", b"\x00", BLENDER, 1, 0);
-    hands(
+    hands_back(b"no entries, no entries", b"\x00", b"\x00", BLENDER, 1, 0);
+    hands_back(
         b"an entry, the same",
         b"\x01\x00\x64\x05\x01",
         b"\x01\x00\x64\x05\x01",
@@ -19,7 +19,7 @@ fn ended() {
         5,
         0,
     );
-    hands(
+    hands_back(
         b"an entry, none",
         b"\x01\x00\x64\x05\x01",
         b"\x00",
@@ -27,7 +27,7 @@ fn ended() {
         1,
         4,
     );
-    hands(
+    hands_back(
         b"none, an entry",
         b"\x00",
         b"\x01\x00\x64\x05\x01",
@@ -35,7 +35,7 @@ fn ended() {
         1,
         4,
     );
-    hands(
+    hands_back(
         b"two entries, the first of them",
         b"\x02\x00\x64\x05\x01\x0f\x64\x05\x01",
         b"\x01\x00\x64\x05\x01",
@@ -43,7 +43,7 @@ fn ended() {
         5,
         4,
     );
-    hands(
+    hands_back(
         b"the first of two entries, both",
         b"\x01\x00\x64\x05\x01",
         b"\x02\x00\x64\x05\x01\x0f\x64\x05\x01",
@@ -55,7 +55,7 @@ fn ended() {
 
 // The ratios are equal and another number differs: the blender's, whichever number is the smaller.
 fn equal_ratios() {
-    hands(
+    hands_back(
         b"minutes 0, 1",
         b"\x01\x00\x64\x05\x02",
         b"\x01\x01\x64\x05\x02",
@@ -63,7 +63,7 @@ fn equal_ratios() {
         1,
         4,
     );
-    hands(
+    hands_back(
         b"minutes 1, 0",
         b"\x01\x01\x64\x05\x02",
         b"\x01\x00\x64\x05\x02",
@@ -71,7 +71,7 @@ fn equal_ratios() {
         1,
         4,
     );
-    hands(
+    hands_back(
         b"litres 99, 100",
         b"\x01\x00\x63\x05\x02",
         b"\x01\x00\x64\x05\x02",
@@ -79,7 +79,7 @@ fn equal_ratios() {
         1,
         4,
     );
-    hands(
+    hands_back(
         b"litres 100, 99",
         b"\x01\x00\x64\x05\x02",
         b"\x01\x00\x63\x05\x02",
@@ -87,7 +87,7 @@ fn equal_ratios() {
         1,
         4,
     );
-    hands(
+    hands_back(
         b"litres 128, 127",
         b"\x01\x00\x80\x01\x05\x02",
         b"\x01\x00\x7f\x05\x02",
@@ -95,7 +95,7 @@ fn equal_ratios() {
         1,
         5,
     );
-    hands(
+    hands_back(
         b"product 1, 2",
         b"\x01\x00\x64\x05\x01",
         b"\x01\x00\x64\x05\x02",
@@ -103,7 +103,7 @@ fn equal_ratios() {
         1,
         4,
     );
-    hands(
+    hands_back(
         b"product 2, 1",
         b"\x01\x00\x64\x05\x02",
         b"\x01\x00\x64\x05\x01",
@@ -111,24 +111,24 @@ fn equal_ratios() {
         1,
         4,
     );
-    hands(
-        b"all but the ratio",
+    hands_back(
+        b"all numbers but the ratio",
         b"\x01\x01\x64\x05\x02",
         b"\x01\x00\x63\x05\x01",
         BLENDER,
         1,
         4,
     );
-    hands(
-        b"the gauge's ends after it",
+    hands_back(
+        b"product 1, 2, and the gauge's ends",
         b"\x02\x00\x64\x05\x01\x00\x64\x05\x01",
         b"\x01\x00\x64\x05\x02",
         BLENDER,
         1,
         8,
     );
-    hands(
-        b"the blender's ends after it",
+    hands_back(
+        b"product 1, 2, and the blender's ends",
         b"\x01\x00\x64\x05\x01",
         b"\x02\x00\x64\x05\x02\x00\x64\x05\x01",
         BLENDER,
@@ -139,7 +139,7 @@ fn equal_ratios() {
 
 // The ratios differ: the one with the smaller ratio, whatever the other numbers and the bytes of the ratio are.
 fn smaller_ratio() {
-    hands(
+    hands_back(
         b"ratio 5, 6",
         b"\x01\x00\x64\x05\x01",
         b"\x01\x00\x64\x06\x01",
@@ -147,7 +147,7 @@ fn smaller_ratio() {
         1,
         4,
     );
-    hands(
+    hands_back(
         b"ratio 6, 5",
         b"\x01\x00\x64\x06\x01",
         b"\x01\x00\x64\x05\x01",
@@ -155,7 +155,7 @@ fn smaller_ratio() {
         1,
         4,
     );
-    hands(
+    hands_back(
         b"ratio 0, 10000",
         b"\x01\x00\x64\x00\x01",
         b"\x01\x00\x64\x90\x4e\x01",
@@ -163,7 +163,7 @@ fn smaller_ratio() {
         1,
         4,
     );
-    hands(
+    hands_back(
         b"ratio 10000, 0",
         b"\x01\x00\x64\x90\x4e\x01",
         b"\x01\x00\x64\x00\x01",
@@ -171,7 +171,7 @@ fn smaller_ratio() {
         1,
         4,
     );
-    hands(
+    hands_back(
         b"ratio 127, 128",
         b"\x01\x00\x64\x7f\x01",
         b"\x01\x00\x64\x80\x01\x01",
@@ -179,7 +179,7 @@ fn smaller_ratio() {
         1,
         4,
     );
-    hands(
+    hands_back(
         b"ratio 128, 127",
         b"\x01\x00\x64\x80\x01\x01",
         b"\x01\x00\x64\x7f\x01",
@@ -187,7 +187,7 @@ fn smaller_ratio() {
         1,
         4,
     );
-    hands(
+    hands_back(
         b"ratio 129, 256",
         b"\x01\x00\x64\x81\x01\x01",
         b"\x01\x00\x64\x80\x02\x01",
@@ -195,7 +195,7 @@ fn smaller_ratio() {
         1,
         5,
     );
-    hands(
+    hands_back(
         b"ratio 256, 129",
         b"\x01\x00\x64\x80\x02\x01",
         b"\x01\x00\x64\x81\x01\x01",
@@ -203,7 +203,7 @@ fn smaller_ratio() {
         1,
         5,
     );
-    hands(
+    hands_back(
         b"ratio 6, 5, the others the other way",
         b"\x01\x00\x63\x06\x01",
         b"\x01\x01\x64\x05\x02",
@@ -211,7 +211,7 @@ fn smaller_ratio() {
         1,
         4,
     );
-    hands(
+    hands_back(
         b"ratio 5, 6, the others the other way",
         b"\x01\x01\x64\x05\x02",
         b"\x01\x00\x63\x06\x01",
@@ -223,7 +223,7 @@ fn smaller_ratio() {
 
 // Later entries: the first place counts, and what follows it does not, also where an entry is missing in one of them.
 fn later_entries() {
-    hands(
+    hands_back(
         b"second entry, ratio 6, 5",
         b"\x02\x00\x64\x05\x01\x00\x64\x06\x01",
         b"\x02\x00\x64\x05\x01\x00\x64\x05\x01",
@@ -231,7 +231,7 @@ fn later_entries() {
         5,
         4,
     );
-    hands(
+    hands_back(
         b"third entry, ratio 5, 6",
         b"\x03\x00\x64\x05\x01\x00\x64\x06\x01\x00\x64\x05\x01",
         b"\x03\x00\x64\x05\x01\x00\x64\x06\x01\x00\x64\x06\x01",
@@ -239,7 +239,7 @@ fn later_entries() {
         9,
         4,
     );
-    hands(
+    hands_back(
         b"first entry, ratio 6, 5, second, 5, 6",
         b"\x02\x00\x64\x06\x01\x00\x64\x05\x01",
         b"\x02\x00\x64\x05\x01\x00\x64\x06\x01",
@@ -247,7 +247,7 @@ fn later_entries() {
         1,
         8,
     );
-    hands(
+    hands_back(
         b"the gauge's without the second entry",
         b"\x03\x00\x64\x05\x01\x01\x64\x06\x01\x02\x64\x07\x01",
         b"\x02\x00\x64\x05\x01\x02\x64\x07\x01",
@@ -255,7 +255,7 @@ fn later_entries() {
         5,
         8,
     );
-    hands(
+    hands_back(
         b"the blender's without the second entry",
         b"\x02\x00\x64\x05\x01\x02\x64\x07\x01",
         b"\x03\x00\x64\x05\x01\x01\x64\x06\x01\x02\x64\x07\x01",

@@ -2,7 +2,7 @@
 // so that an entry has four bytes, but for one number that is named.
 use crate::pairs::BLENDER;
 use crate::pairs::GAUGE;
-use crate::pairs::hands;
+use crate::pairs::hands_back;
 
 // A count of 127 has one byte, and one of 128 has two.
 fn one_and_two_bytes<'a>(
@@ -11,9 +11,9 @@ fn one_and_two_bytes<'a>(
     litres_2: &'a [u8],
     of_128: &'a [u8],
 ) {
-    hands(b"127 entries, 128", of_127, of_128, GAUGE, 510, 4);
-    hands(b"128 entries, 127", of_128, of_127, BLENDER, 510, 4);
-    hands(
+    hands_back(b"127 entries, 128", of_127, of_128, GAUGE, 510, 4);
+    hands_back(b"128 entries, 127", of_128, of_127, BLENDER, 510, 4);
+    hands_back(
         b"127 entries, the last of ratio 2, 128",
         ratio_2,
         of_128,
@@ -21,7 +21,7 @@ fn one_and_two_bytes<'a>(
         506,
         8,
     );
-    hands(
+    hands_back(
         b"128 entries, 127, the last of ratio 2",
         of_128,
         ratio_2,
@@ -29,7 +29,7 @@ fn one_and_two_bytes<'a>(
         506,
         8,
     );
-    hands(
+    hands_back(
         b"127 entries, 127, the last of ratio 2",
         of_127,
         ratio_2,
@@ -37,7 +37,7 @@ fn one_and_two_bytes<'a>(
         505,
         4,
     );
-    hands(
+    hands_back(
         b"127 entries, the last of 2 litres, 128",
         litres_2,
         of_128,
@@ -45,7 +45,7 @@ fn one_and_two_bytes<'a>(
         505,
         4,
     );
-    hands(
+    hands_back(
         b"128 entries, 127, the last of 2 litres",
         of_128,
         litres_2,
@@ -53,7 +53,7 @@ fn one_and_two_bytes<'a>(
         506,
         8,
     );
-    hands(
+    hands_back(
         b"127 entries, the last of ratio 2, 127, the last of 2 litres",
         ratio_2,
         litres_2,
@@ -81,10 +81,10 @@ pub fn around_128() {
 
 // The most entries.
 fn two_thousand<'a>(all: &'a [u8], but_one: &'a [u8], ratio_0: &'a [u8]) {
-    hands(b"2000 entries, the same", all, all, BLENDER, 8002, 0);
-    hands(b"2000 entries, 1999", all, but_one, BLENDER, 7998, 4);
-    hands(b"1999 entries, 2000", but_one, all, GAUGE, 7998, 4);
-    hands(
+    hands_back(b"2000 entries, the same", all, all, BLENDER, 8002, 0);
+    hands_back(b"2000 entries, 1999", all, but_one, BLENDER, 7998, 4);
+    hands_back(b"1999 entries, 2000", but_one, all, GAUGE, 7998, 4);
+    hands_back(
         b"2000 entries, 2000, the last of ratio 0",
         all,
         ratio_0,

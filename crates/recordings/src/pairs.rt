@@ -59,7 +59,7 @@ fn end(ok: bool) {
 }
 
 // An accepted pair, with the part handed back.
-pub fn hands<'a>(
+pub fn hands_back<'a>(
     case: &[u8],
     blender: &'a [u8],
     gauge: &'a [u8],

@@ -1,5 +1,5 @@
 -- Document 02 (k), blender log against tank gauge: which part of which recording is handed back, said of the two strings without the definition of
--- the calls; which pairs are refused; that the two calls agree on every pair; and pairs as bytes.
+-- the calls; which pairs are refused; that the two calls agree on every pair; and single pairs.
 use mathlib.Core.Path.{_≡_}
 use mathlib.Core.List.{List, [], _∷_, _++_}
 use mathlib.Core.Logic.{_↔_, _⊎_}
@@ -106,7 +106,7 @@ pub record BlenderAgainstGauge : Type 0 where
       → (compareRecordingsCall blender gauge .refusal ≡ 0 → ⊥) ↔ (compareRecordingsCall blender gauge .value ≡ part.Blender 0 0)
   pub agree-0 :
       (blender gauge : List ℕ) → (compareRecordingsCall blender gauge .refusal ≡ 0) ↔ (1 ≤ fromOf (compareRecordingsCall blender gauge .value))
-  -- The same of the slice: it begins where the blender's buffer does, and is empty, exactly where the pair is refused.
+  -- The slice begins where the blender's buffer does, and is empty, exactly where the pair is refused.
   pub agree-slice :
       (blender gauge : RefT (List ℕ)) → AllBytes (blender .now) → AllBytes (gauge .now)
       → (compareRecordingsCall (blender .now) (gauge .now) .refusal ≡ 0 → ⊥)

@@ -13,7 +13,8 @@ returns c =
 returns-2 : tie.Need-returns-2
 returns-2 c =
     let a = c .before .before .before .before .before .args in
-    number-second (now (a .blender)) (now (a .gauge)) _ (c .before .before .check-volume .ensures) _ (c .check-volume2 .ensures) (c .before .if1 .left)
+    number-second (now (a .blender)) (now (a .gauge)) _ (c .before .before .check-volume .ensures)
+    _ (c .check-volume2 .ensures) (c .before .if1 .left)
 
 pub check-recordings-spec : {M : Type 1} → statement M
 check-recordings-spec = tie.close (tie.spec (λ c κs. search needs) returns (λ c κs. search needs) returns-2)

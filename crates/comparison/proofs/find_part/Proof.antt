@@ -16,7 +16,8 @@ returns-2 c =
     let a = c .before .before .before .before .before .before .before .before .args in
     let b = c .before .before .before .before .before .count-entries in
     let g = c .before .before .count-entries2 in
-    nothing-second (now (a .blender)) (now (a .gauge)) (b .result) (b .ensures) (g .result) (g .ensures) (c .before .before .before .if1 .left) (c .if2 .taken)
+    nothing-second (now (a .blender)) (now (a .gauge)) (b .result) (b .ensures) (g .result) (g .ensures)
+    (c .before .before .before .if1 .left) (c .if2 .taken)
 
 first-difference-requires : tie.Need-first-difference-requires
 first-difference-requires c κs =

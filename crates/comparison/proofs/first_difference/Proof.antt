@@ -25,8 +25,8 @@ loop-holds c = (omega arith, omega arith, c .before .before .pre .0, c .before .
 returns : tie.Need-returns Inv-loop μ-loop
 returns c =
     let l = c .before .before .before .loop in
-    gauge-has-ended _ _ _ _ _ _ (l .k) _ _ (l .inv .4) _ (λ i. c .before .before .before .before .before .shared-slice-known .given i .fits) (l .inv .2) (omega arith)
-    (c .blender-rest .ensures)
+    gauge-has-ended _ _ _ _ _ _ (l .k) _ _ (l .inv .4) _
+    (λ i. c .before .before .before .before .before .shared-slice-known .given i .fits) (l .inv .2) (omega arith) (c .blender-rest .ensures)
 
 returns-2 : tie.Need-returns-2 Inv-loop μ-loop
 returns-2 c =
@@ -37,7 +37,8 @@ returns-2 c =
     smaller-ratio _ _ _ _ _ _ (l .k) _ _ (l .inv .4) test (omega arith) (b .result) (g .result) (b .ensures .0) (g .ensures .0)
     (λ i. c .before .before .before .before .before .before .before .before .before .before .before .before .shared-slice-known .given i .fits)
     (λ i. c .before .before .before .before .before .before .before .before .before .before .before .shared-slice-known2 .given i .fits)
-    (l .inv .2) (l .inv .3) (sym (c .before .before .before .before .before .same-entry .ensures) ∙ not-true _ (c .before .before .before .before .if2 .taken))
+    (l .inv .2) (l .inv .3)
+    (sym (c .before .before .before .before .before .same-entry .ensures) ∙ not-true _ (c .before .before .before .before .if2 .taken))
     _ (c .gauge-rest .ensures) (lt-ltb (g .result .entry .ratio) (b .result .entry .ratio) (omega (arith, c .before .if3 .taken)))
 
 returns-3 : tie.Need-returns-3 Inv-loop μ-loop
@@ -49,7 +50,8 @@ returns-3 c =
     other-ratio _ _ _ _ _ _ (l .k) _ _ (l .inv .4) test (omega arith) (b .result) (g .result) (b .ensures .0) (g .ensures .0)
     (λ i. c .before .before .before .before .before .before .before .before .before .before .before .before .shared-slice-known .given i .fits)
     (λ i. c .before .before .before .before .before .before .before .before .before .before .before .shared-slice-known2 .given i .fits)
-    (l .inv .2) (l .inv .3) (sym (c .before .before .before .before .before .same-entry .ensures) ∙ not-true _ (c .before .before .before .before .if2 .taken))
+    (l .inv .2) (l .inv .3)
+    (sym (c .before .before .before .before .before .same-entry .ensures) ∙ not-true _ (c .before .before .before .before .if2 .taken))
     _ (c .blender-rest2 .ensures) (le-ltb (g .result .entry .ratio) (b .result .entry .ratio) (omega (arith, c .before .if3 .left)))
 
 loop-again : tie.Need-loop-again Inv-loop μ-loop
@@ -69,19 +71,21 @@ loop-again c =
 returns-4 : tie.Need-returns-4 Inv-loop μ-loop
 returns-4 c =
     let l = c .before .before .before .loop in
-    blender-has-ended _ _ _ _ _ _ (l .k) _ _ (l .inv .4) _ (λ i. c .before .before .before .before .shared-slice-known2 .given i .fits) (l .inv .3) (omega arith)
+    blender-has-ended _ _ _ _ _ _ (l .k) _ _ (l .inv .4) _
+    (λ i. c .before .before .before .before .shared-slice-known2 .given i .fits) (l .inv .3) (omega arith)
     (c .before .if4 .taken) (c .gauge-rest2 .ensures)
 
 -- both have ended
 returns-5 : tie.Need-returns-5 Inv-loop μ-loop
 returns-5 c =
     let l = c .before .before .before .loop in
-    gauge-has-ended _ _ _ _ _ _ (l .k) _ _ (l .inv .4) _ (λ i. c .before .before .before .before .before .shared-slice-known .given i .fits) (l .inv .2) (omega arith)
-    (c .blender-rest3 .ensures)
+    gauge-has-ended _ _ _ _ _ _ (l .k) _ _ (l .inv .4) _
+    (λ i. c .before .before .before .before .before .shared-slice-known .given i .fits) (l .inv .2) (omega arith) (c .blender-rest3 .ensures)
 
 pub first-difference-spec : {M : Type 1} → statement M
 first-difference-spec =
     let a₁ = tie.spec Inv-loop μ-loop loop-holds (λ c κs. search needs) returns in
-    let a₂ = a₁ (λ c κs. search needs) (λ c κs. search needs) (λ c κs. search needs) (λ c κs. search needs) returns-2 (λ c κs. search needs) returns-3 in
-    let a₃ = a₂ (λ c. omega arith) (λ c. omega arith) loop-again (λ c κs. search needs) returns-4 (λ c κs. search needs) returns-5 in
-    tie.close a₃
+    let a₂ = a₁ (λ c κs. search needs) (λ c κs. search needs) (λ c κs. search needs) (λ c κs. search needs) returns-2 in
+    let a₃ = a₂ (λ c κs. search needs) returns-3 (λ c. omega arith) (λ c. omega arith) loop-again in
+    let a₄ = a₃ (λ c κs. search needs) returns-4 (λ c κs. search needs) returns-5 in
+    tie.close a₄
