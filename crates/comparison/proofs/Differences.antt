@@ -1,6 +1,6 @@
 -- What the loop over two recordings keeps, and the part that it finds. Assumes nothing.
 use mathlib.Core.Path.{_≡_, refl, sym, ap₂, _∙_}
-use mathlib.Core.Bool.{true, false, cond}
+use mathlib.Core.Bool.{Bool, true, false, cond}
 use mathlib.Core.List.{List, [], _∷_}
 use Prim.Native.Nat.{ℕ, suc, _+_, _-_, _<_, _≤_}
 use native.Mathlib.Omega.{arith}
@@ -111,13 +111,9 @@ module _ (blender : List ℕ) (first n : ℕ) (gauge : List ℕ) (start m : ℕ)
             ∙ ap₂ (λ (v w : ℕ). cond (ltb (g .entry .ratio) (b .entry .ratio)) (gaugeRest (length gauge) v) (blenderRest (length blender) w))
             (sym (rw (← x .gauge-first .entries-are) there-is)) (sym (rw (← x .blender-first .entries-are) at-is))
 
-        pub smaller-ratio : (r : Part) → r ≡ gaugeRest (length gauge) there → ltb (g .entry .ratio) (b .entry .ratio) ≡ true
-            → PartIs blender first n gauge start m r
-        smaller-ratio r h t blenders gauges p q = h ∙ sym (differs blenders gauges p q ∙ rw t)
-
-        pub other-ratio : (r : Part) → r ≡ blenderRest (length blender) at → ltb (g .entry .ratio) (b .entry .ratio) ≡ false
-            → PartIs blender first n gauge start m r
-        other-ratio r h t blenders gauges p q = h ∙ sym (differs blenders gauges p q ∙ rw t)
+        pub differ : (r : Part) (smaller : Bool) → ltb (g .entry .ratio) (b .entry .ratio) ≡ smaller
+            → r ≡ cond smaller (gaugeRest (length gauge) there) (blenderRest (length blender) at) → PartIs blender first n gauge start m r
+        differ r smaller t h blenders gauges p q = h ∙ sym (differs blenders gauges p q ∙ rw t)
 
     module _ (r : Part) where
       pub gauge-has-ended : Bytes blender → at ≤ length blender → m ≤ k → r ≡ blenderRest (length blender) at → PartIs blender first n gauge start m r

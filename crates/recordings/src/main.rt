@@ -1,8 +1,9 @@
 // The cases of document 02 (k), the blender's log against the tank gauge's: a line each, `ok` or `wrong`. An entry is minutes, litres, ratio and
 // product.
-use pairs::BLENDER;
-use pairs::GAUGE;
-use pairs::hands_back;
+use pairs::blenders;
+use pairs::blenders_entry;
+use pairs::gauges;
+use pairs::gauges_entry;
 use pairs::refuses;
 
 mod many;
@@ -10,258 +11,108 @@ mod pairs;
 
 // Both have ended, or one of them, which is then a beginning of the other.
 fn ended() {
-    hands_back(b"no entries, no entries", b"\x00", b"\x00", BLENDER, 1, 0);
-    hands_back(
+    blenders(b"no entries, no entries", b"\x00", b"\x00", 1, 0);
+    blenders(
         b"an entry, the same",
         b"\x01\x00\x64\x05\x01",
         b"\x01\x00\x64\x05\x01",
-        BLENDER,
         5,
         0,
     );
-    hands_back(
-        b"an entry, none",
-        b"\x01\x00\x64\x05\x01",
-        b"\x00",
-        BLENDER,
-        1,
-        4,
-    );
-    hands_back(
-        b"none, an entry",
-        b"\x00",
-        b"\x01\x00\x64\x05\x01",
-        GAUGE,
-        1,
-        4,
-    );
-    hands_back(
+    blenders(b"an entry, none", b"\x01\x00\x64\x05\x01", b"\x00", 1, 4);
+    gauges(b"none, an entry", b"\x00", b"\x01\x00\x64\x05\x01", 1, 4);
+    blenders(
         b"two entries, the first of them",
         b"\x02\x00\x64\x05\x01\x0f\x64\x05\x01",
         b"\x01\x00\x64\x05\x01",
-        BLENDER,
         5,
         4,
     );
-    hands_back(
+    gauges(
         b"the first of two entries, both",
         b"\x01\x00\x64\x05\x01",
         b"\x02\x00\x64\x05\x01\x0f\x64\x05\x01",
-        GAUGE,
         5,
         4,
     );
 }
 
-// The ratios are equal and another number differs: the blender's, whichever number is the smaller.
+// Recordings of one entry each. The ratios are equal and another number differs: the blender's, whichever number is the smaller.
 fn equal_ratios() {
-    hands_back(
-        b"minutes 0, 1",
-        b"\x01\x00\x64\x05\x02",
-        b"\x01\x01\x64\x05\x02",
-        BLENDER,
-        1,
-        4,
-    );
-    hands_back(
-        b"minutes 1, 0",
-        b"\x01\x01\x64\x05\x02",
-        b"\x01\x00\x64\x05\x02",
-        BLENDER,
-        1,
-        4,
-    );
-    hands_back(
-        b"litres 99, 100",
-        b"\x01\x00\x63\x05\x02",
-        b"\x01\x00\x64\x05\x02",
-        BLENDER,
-        1,
-        4,
-    );
-    hands_back(
-        b"litres 100, 99",
-        b"\x01\x00\x64\x05\x02",
-        b"\x01\x00\x63\x05\x02",
-        BLENDER,
-        1,
-        4,
-    );
-    hands_back(
-        b"litres 128, 127",
-        b"\x01\x00\x80\x01\x05\x02",
-        b"\x01\x00\x7f\x05\x02",
-        BLENDER,
-        1,
-        5,
-    );
-    hands_back(
-        b"product 1, 2",
-        b"\x01\x00\x64\x05\x01",
-        b"\x01\x00\x64\x05\x02",
-        BLENDER,
-        1,
-        4,
-    );
-    hands_back(
-        b"product 2, 1",
-        b"\x01\x00\x64\x05\x02",
-        b"\x01\x00\x64\x05\x01",
-        BLENDER,
-        1,
-        4,
-    );
-    hands_back(
-        b"all numbers but the ratio",
-        b"\x01\x01\x64\x05\x02",
-        b"\x01\x00\x63\x05\x01",
-        BLENDER,
-        1,
-        4,
-    );
-    hands_back(
-        b"product 1, 2, and the gauge's ends",
-        b"\x02\x00\x64\x05\x01\x00\x64\x05\x01",
-        b"\x01\x00\x64\x05\x02",
-        BLENDER,
-        1,
-        8,
-    );
-    hands_back(
-        b"product 1, 2, and the blender's ends",
-        b"\x01\x00\x64\x05\x01",
-        b"\x02\x00\x64\x05\x02\x00\x64\x05\x01",
-        BLENDER,
-        1,
-        4,
-    );
+    blenders_entry(b"minutes 0, 1", [0, 100, 5, 2], [1, 100, 5, 2], 4);
+    blenders_entry(b"minutes 1, 0", [1, 100, 5, 2], [0, 100, 5, 2], 4);
+    blenders_entry(b"litres 99, 100", [0, 99, 5, 2], [0, 100, 5, 2], 4);
+    blenders_entry(b"litres 100, 99", [0, 100, 5, 2], [0, 99, 5, 2], 4);
+    blenders_entry(b"litres 128, 127", [0, 128, 5, 2], [0, 127, 5, 2], 5);
+    blenders_entry(b"product 1, 2", [0, 100, 5, 1], [0, 100, 5, 2], 4);
+    blenders_entry(b"product 2, 1", [0, 100, 5, 2], [0, 100, 5, 1], 4);
+    blenders_entry(b"all but the ratio", [1, 100, 5, 2], [0, 99, 5, 1], 4);
 }
 
-// The ratios differ: the one with the smaller ratio, whatever the other numbers and the bytes of the ratio are.
+// The ratios differ: the one with the smaller ratio, whatever the other numbers are, and whatever the bytes of the ratio, which are two from 128 on.
 fn smaller_ratio() {
-    hands_back(
-        b"ratio 5, 6",
-        b"\x01\x00\x64\x05\x01",
-        b"\x01\x00\x64\x06\x01",
-        BLENDER,
-        1,
-        4,
-    );
-    hands_back(
-        b"ratio 6, 5",
-        b"\x01\x00\x64\x06\x01",
-        b"\x01\x00\x64\x05\x01",
-        GAUGE,
-        1,
-        4,
-    );
-    hands_back(
-        b"ratio 0, 10000",
-        b"\x01\x00\x64\x00\x01",
-        b"\x01\x00\x64\x90\x4e\x01",
-        BLENDER,
-        1,
-        4,
-    );
-    hands_back(
-        b"ratio 10000, 0",
-        b"\x01\x00\x64\x90\x4e\x01",
-        b"\x01\x00\x64\x00\x01",
-        GAUGE,
-        1,
-        4,
-    );
-    hands_back(
-        b"ratio 127, 128",
-        b"\x01\x00\x64\x7f\x01",
-        b"\x01\x00\x64\x80\x01\x01",
-        BLENDER,
-        1,
-        4,
-    );
-    hands_back(
-        b"ratio 128, 127",
-        b"\x01\x00\x64\x80\x01\x01",
-        b"\x01\x00\x64\x7f\x01",
-        GAUGE,
-        1,
-        4,
-    );
-    hands_back(
-        b"ratio 129, 256",
-        b"\x01\x00\x64\x81\x01\x01",
-        b"\x01\x00\x64\x80\x02\x01",
-        BLENDER,
-        1,
-        5,
-    );
-    hands_back(
-        b"ratio 256, 129",
-        b"\x01\x00\x64\x80\x02\x01",
-        b"\x01\x00\x64\x81\x01\x01",
-        GAUGE,
-        1,
-        5,
-    );
-    hands_back(
-        b"ratio 6, 5, the others the other way",
-        b"\x01\x00\x63\x06\x01",
-        b"\x01\x01\x64\x05\x02",
-        GAUGE,
-        1,
-        4,
-    );
-    hands_back(
-        b"ratio 5, 6, the others the other way",
-        b"\x01\x01\x64\x05\x02",
-        b"\x01\x00\x63\x06\x01",
-        BLENDER,
-        1,
-        4,
-    );
+    blenders_entry(b"ratio 5, 6", [0, 100, 5, 1], [0, 100, 6, 1], 4);
+    gauges_entry(b"ratio 6, 5", [0, 100, 6, 1], [0, 100, 5, 1], 4);
+    blenders_entry(b"ratio 0, 10000", [0, 100, 0, 1], [0, 100, 10000, 1], 4);
+    gauges_entry(b"ratio 10000, 0", [0, 100, 10000, 1], [0, 100, 0, 1], 4);
+    blenders_entry(b"ratio 127, 128", [0, 100, 127, 1], [0, 100, 128, 1], 4);
+    gauges_entry(b"ratio 128, 127", [0, 100, 128, 1], [0, 100, 127, 1], 4);
+    blenders_entry(b"ratio 129, 256", [0, 100, 129, 1], [0, 100, 256, 1], 5);
+    gauges_entry(b"ratio 256, 129", [0, 100, 256, 1], [0, 100, 129, 1], 5);
+    gauges_entry(b"ratio 6, 5, others less", [0, 99, 6, 1], [1, 100, 5, 2], 4);
+    blenders_entry(b"ratio 5, 6, others more", [1, 100, 5, 2], [0, 99, 6, 1], 4);
 }
 
-// Later entries: the first place counts, and what follows it does not, also where an entry is missing in one of them.
-fn later_entries() {
-    hands_back(
+// Several entries: the first place counts, and what follows it does not, also where an entry is missing in one of them or where one of them ends.
+fn several_entries() {
+    gauges(
         b"second entry, ratio 6, 5",
         b"\x02\x00\x64\x05\x01\x00\x64\x06\x01",
         b"\x02\x00\x64\x05\x01\x00\x64\x05\x01",
-        GAUGE,
         5,
         4,
     );
-    hands_back(
+    blenders(
         b"third entry, ratio 5, 6",
         b"\x03\x00\x64\x05\x01\x00\x64\x06\x01\x00\x64\x05\x01",
         b"\x03\x00\x64\x05\x01\x00\x64\x06\x01\x00\x64\x06\x01",
-        BLENDER,
         9,
         4,
     );
-    hands_back(
+    gauges(
         b"first entry, ratio 6, 5, second, 5, 6",
         b"\x02\x00\x64\x06\x01\x00\x64\x05\x01",
         b"\x02\x00\x64\x05\x01\x00\x64\x06\x01",
-        GAUGE,
         1,
         8,
     );
-    hands_back(
+    blenders(
         b"the gauge's without the second entry",
         b"\x03\x00\x64\x05\x01\x01\x64\x06\x01\x02\x64\x07\x01",
         b"\x02\x00\x64\x05\x01\x02\x64\x07\x01",
-        BLENDER,
         5,
         8,
     );
-    hands_back(
+    gauges(
         b"the blender's without the second entry",
         b"\x02\x00\x64\x05\x01\x02\x64\x07\x01",
         b"\x03\x00\x64\x05\x01\x01\x64\x06\x01\x02\x64\x07\x01",
-        GAUGE,
         5,
         8,
+    );
+    blenders(
+        b"product 1, 2, and the gauge's ends",
+        b"\x02\x00\x64\x05\x01\x00\x64\x05\x01",
+        b"\x01\x00\x64\x05\x02",
+        1,
+        8,
+    );
+    blenders(
+        b"product 1, 2, and the blender's ends",
+        b"\x01\x00\x64\x05\x01",
+        b"\x02\x00\x64\x05\x02\x00\x64\x05\x01",
+        1,
+        4,
     );
 }
 
@@ -320,7 +171,7 @@ fn main() {
     ended();
     equal_ratios();
     smaller_ratio();
-    later_entries();
+    several_entries();
     refused();
     many::around_128();
     many::most();

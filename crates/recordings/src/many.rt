@@ -1,8 +1,7 @@
 // Recordings of many entries, whose counts have one byte and two, so that the same entries stand at different places. Each number of an entry is 1,
 // so that an entry has four bytes, but for one number that is named.
-use crate::pairs::BLENDER;
-use crate::pairs::GAUGE;
-use crate::pairs::hands_back;
+use crate::pairs::blenders;
+use crate::pairs::gauges;
 
 // A count of 127 has one byte, and one of 128 has two.
 fn one_and_two_bytes<'a>(
@@ -11,53 +10,47 @@ fn one_and_two_bytes<'a>(
     litres_2: &'a [u8],
     of_128: &'a [u8],
 ) {
-    hands_back(b"127 entries, 128", of_127, of_128, GAUGE, 510, 4);
-    hands_back(b"128 entries, 127", of_128, of_127, BLENDER, 510, 4);
-    hands_back(
+    gauges(b"127 entries, 128", of_127, of_128, 510, 4);
+    blenders(b"128 entries, 127", of_128, of_127, 510, 4);
+    gauges(
         b"127 entries, the last of ratio 2, 128",
         ratio_2,
         of_128,
-        GAUGE,
         506,
         8,
     );
-    hands_back(
+    blenders(
         b"128 entries, 127, the last of ratio 2",
         of_128,
         ratio_2,
-        BLENDER,
         506,
         8,
     );
-    hands_back(
+    blenders(
         b"127 entries, 127, the last of ratio 2",
         of_127,
         ratio_2,
-        BLENDER,
         505,
         4,
     );
-    hands_back(
+    blenders(
         b"127 entries, the last of 2 litres, 128",
         litres_2,
         of_128,
-        BLENDER,
         505,
         4,
     );
-    hands_back(
+    blenders(
         b"128 entries, 127, the last of 2 litres",
         of_128,
         litres_2,
-        BLENDER,
         506,
         8,
     );
-    hands_back(
+    gauges(
         b"127 entries, the last of ratio 2, 127, the last of 2 litres",
         ratio_2,
         litres_2,
-        GAUGE,
         505,
         4,
     );
@@ -81,14 +74,13 @@ pub fn around_128() {
 
 // The most entries.
 fn two_thousand<'a>(all: &'a [u8], but_one: &'a [u8], ratio_0: &'a [u8]) {
-    hands_back(b"2000 entries, the same", all, all, BLENDER, 8002, 0);
-    hands_back(b"2000 entries, 1999", all, but_one, BLENDER, 7998, 4);
-    hands_back(b"1999 entries, 2000", but_one, all, GAUGE, 7998, 4);
-    hands_back(
+    blenders(b"2000 entries, the same", all, all, 8002, 0);
+    blenders(b"2000 entries, 1999", all, but_one, 7998, 4);
+    gauges(b"1999 entries, 2000", but_one, all, 7998, 4);
+    gauges(
         b"2000 entries, 2000, the last of ratio 0",
         all,
         ratio_0,
-        GAUGE,
         7998,
         4,
     );

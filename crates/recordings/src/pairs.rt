@@ -4,9 +4,9 @@ use comparison::Part;
 use libc::STDOUT_FILENO;
 
 // Which recording a part is of.
-pub const BLENDER: u64 = 0;
+const BLENDER: u64 = 0;
 
-pub const GAUGE: u64 = 1;
+const GAUGE: u64 = 1;
 
 // Whether these are the bytes of a buffer from byte `from` on, so many of them.
 fn are_bytes(bytes: &[u8], buffer: &[u8], from: usize, length: usize) -> bool {
@@ -59,7 +59,7 @@ fn end(ok: bool) {
 }
 
 // An accepted pair, with the part handed back.
-pub fn hands_back<'a>(
+fn hands_back<'a>(
     case: &[u8],
     blender: &'a [u8],
     gauge: &'a [u8],
@@ -79,6 +79,54 @@ pub fn hands_back<'a>(
     let accepted = comparison::check_recordings(blender, gauge) == 0;
     let found = part_is(blender, gauge, recording, from, length);
     end(accepted & found & slice_is(blender, gauge, recording, from, length));
+}
+
+// An accepted pair of which the blender's is handed back, so many bytes from byte `from` on.
+pub fn blenders<'a>(case: &[u8], blender: &'a [u8], gauge: &'a [u8], from: usize, length: usize) {
+    hands_back(case, blender, gauge, BLENDER, from, length);
+}
+
+// An accepted pair of which the gauge's is handed back, so many bytes from byte `from` on.
+pub fn gauges<'a>(case: &[u8], blender: &'a [u8], gauge: &'a [u8], from: usize, length: usize) {
+    hands_back(case, blender, gauge, GAUGE, from, length);
+}
+
+// Two recordings that are the first n and the first m bytes of these, and differ in their first entries, after a count of one byte.
+fn hands_back_first<'a>(
+    case: &[u8],
+    blender: &'a [u8],
+    n: usize,
+    gauge: &'a [u8],
+    m: usize,
+    recording: u64,
+    length: usize,
+) {
+    if blender.len() < n {
+        return;
+    }
+    if gauge.len() < m {
+        return;
+    }
+    hands_back(case, &blender[0..n], &gauge[0..m], recording, 1, length);
+}
+
+// Two recordings of one entry each, of which the one that is handed back has so many bytes.
+fn hands_back_entry(case: &[u8], b: [u32; 4], g: [u32; 4], recording: u64, length: usize) {
+    let mut blender = [0u8; 9];
+    let mut gauge = [0u8; 9];
+    let n = volume::write_volume(&b, &mut blender).length;
+    let m = volume::write_volume(&g, &mut gauge).length;
+    hands_back_first(case, &blender, n, &gauge, m, recording, length);
+}
+
+// The blender's is the one handed back.
+pub fn blenders_entry(case: &[u8], b: [u32; 4], g: [u32; 4], length: usize) {
+    hands_back_entry(case, b, g, BLENDER, length);
+}
+
+// The gauge's is the one handed back.
+pub fn gauges_entry(case: &[u8], b: [u32; 4], g: [u32; 4], length: usize) {
+    hands_back_entry(case, b, g, GAUGE, length);
 }
 
 // A refused pair, of which the empty beginning of the blender's buffer is handed back.

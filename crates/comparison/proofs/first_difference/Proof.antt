@@ -1,14 +1,27 @@
 -- `comparison::first_difference` meets its contract. The loop keeps `Comes`. Assumes nothing.
-use mathlib.Core.Path.{sym, _∙_}
-use Prim.Native.Nat.{_-_, _≤_}
+use mathlib.Core.Path.{_≡_, sym, _∙_}
+use mathlib.Core.Bool.{Bool, true, false, cond}
+use mathlib.Core.List.{List}
+use Prim.Native.Nat.{ℕ, _-_, _≤_}
 use native.Mathlib.Omega.{arith}
 use borrow.Author.Needs.{needs}
 use borrow.Author.Tests.{lt-ltb, le-ltb}
+use denote.Ref.{now}
+use lib.Dec.{ltb}
 use lib.ListN.{length}
 use Rattle.laws.proofs.Same.{not-true, not-false}
-use Rattle.comparison.proofs.Differences.{Comes, starts, turns, smaller-ratio, other-ratio, gauge-has-ended, blender-has-ended}
+use Rattle.volume.specs.declared.reading.CountFound.{CountFound}
+use Rattle.comparison.specs.declared.Part.{Part}
+use Rattle.comparison.specs.Found.{PartIs, blenderRest, gaugeRest}
+use Rattle.comparison.proofs.Differences.{Comes, starts, turns, differ, gauge-has-ended, blender-has-ended}
 use Rattle.comparison.proofs.first_difference.Statement.{statement}
 use Rattle.comparison.proofs.first_difference.Tie as tie
+use Rattle.comparison.proofs.first_difference.Reads as reads
+use Rattle.comparison.proofs.first_difference.Lts as lts
+use Rattle.comparison.proofs.blender_rest.Reads as blender-rest-reads
+use Rattle.comparison.proofs.gauge_rest.Reads as gauge-rest-reads
+use Rattle.comparison.proofs.same_entry.Reads as same-entry-reads
+use Rattle.volume.proofs.reading.read_entry.Reads as read-entry-reads
 
 abbrev Inv-loop : tie.InvT-loop
 Inv-loop blender gauge n m blender-at₀ gauge-at₀ k₀ blender-at gauge-at k =
@@ -28,31 +41,67 @@ returns c =
     gauge-has-ended _ _ _ _ _ _ (l .k) _ _ (l .inv .4) _
     (λ i. c .before .before .before .before .before .shared-slice-known .given i .fits) (l .inv .2) (omega arith) (c .blender-rest .ensures)
 
+-- where two entries differ, once their ratios have been read
+abbrev Differing : Type 0
+Differing =
+    lts.After-struct-known2 (
+      blender-rest-reads.Asked,
+      blender-rest-reads.Learnt,
+      read-entry-reads.Asked,
+      read-entry-reads.Learnt,
+      same-entry-reads.Asked,
+      same-entry-reads.Learnt,
+      gauge-rest-reads.Asked,
+      gauge-rest-reads.Learnt,
+    ) reads.Pre reads.Post Inv-loop μ-loop
+
+module _ (d : Differing) where
+  abbrev blender : List ℕ
+  blender = now (d .before .before .before .before .before .before .before .before .before .before .before .args .blender)
+
+  abbrev blenders : CountFound
+  blenders = d .before .before .before .before .before .before .before .before .before .before .before .args .blenders
+
+  abbrev blender-at : ℕ
+  blender-at = d .before .before .before .before .before .before .before .before .loop .blender-at
+
+  abbrev blenders-ratio : ℕ
+  blenders-ratio = d .before .before .before .before .before .read-entry .result .entry .ratio
+
+  abbrev gauge : List ℕ
+  gauge = now (d .before .before .before .before .before .before .before .before .before .before .before .args .gauge)
+
+  abbrev gauges : CountFound
+  gauges = d .before .before .before .before .before .before .before .before .before .before .before .args .gauges
+
+  abbrev gauge-at : ℕ
+  gauge-at = d .before .before .before .before .before .before .before .before .loop .gauge-at
+
+  abbrev gauges-ratio : ℕ
+  gauges-ratio = d .before .before .before .before .read-entry2 .result .entry .ratio
+
+  differing : (r : Part) (smaller : Bool) → ltb gauges-ratio blenders-ratio ≡ smaller
+      → r ≡ cond smaller (gaugeRest (length gauge) gauge-at) (blenderRest (length blender) blender-at)
+      → PartIs blender (blenders .first) (blenders .count) gauge (gauges .first) (gauges .count) r
+  differing =
+      let l = d .before .before .before .before .before .before .before .before .loop in
+      let test = d .before .before .before .before .before .before .before .loop-test .taken in
+      let b = d .before .before .before .before .before .read-entry in
+      let g = d .before .before .before .before .read-entry2 in
+      differ _ _ _ _ _ _ (l .k) _ _ (l .inv .4) test (omega arith) (b .result) (g .result) (b .ensures .0) (g .ensures .0)
+      (λ i. d .before .before .before .before .before .before .before .before .before .before .shared-slice-known .given i .fits)
+      (λ i. d .before .before .before .before .before .before .before .before .before .shared-slice-known2 .given i .fits) (l .inv .2) (l .inv .3)
+      (sym (d .before .before .before .same-entry .ensures) ∙ not-true _ (d .before .before .if2 .taken))
+
 returns-2 : tie.Need-returns-2 Inv-loop μ-loop
 returns-2 c =
-    let l = c .before .before .before .before .before .before .before .before .before .before .loop in
-    let test = c .before .before .before .before .before .before .before .before .before .loop-test .taken in
-    let b = c .before .before .before .before .before .before .before .read-entry in
-    let g = c .before .before .before .before .before .before .read-entry2 in
-    smaller-ratio _ _ _ _ _ _ (l .k) _ _ (l .inv .4) test (omega arith) (b .result) (g .result) (b .ensures .0) (g .ensures .0)
-    (λ i. c .before .before .before .before .before .before .before .before .before .before .before .before .shared-slice-known .given i .fits)
-    (λ i. c .before .before .before .before .before .before .before .before .before .before .before .shared-slice-known2 .given i .fits)
-    (l .inv .2) (l .inv .3)
-    (sym (c .before .before .before .before .before .same-entry .ensures) ∙ not-true _ (c .before .before .before .before .if2 .taken))
-    _ (c .gauge-rest .ensures) (lt-ltb (g .result .entry .ratio) (b .result .entry .ratio) (omega (arith, c .before .if3 .taken)))
+    let d = c .before .before in
+    differing d _ true (lt-ltb (gauges-ratio d) (blenders-ratio d) (omega (arith, c .before .if3 .taken))) (c .gauge-rest .ensures)
 
 returns-3 : tie.Need-returns-3 Inv-loop μ-loop
 returns-3 c =
-    let l = c .before .before .before .before .before .before .before .before .before .before .loop in
-    let test = c .before .before .before .before .before .before .before .before .before .loop-test .taken in
-    let b = c .before .before .before .before .before .before .before .read-entry in
-    let g = c .before .before .before .before .before .before .read-entry2 in
-    other-ratio _ _ _ _ _ _ (l .k) _ _ (l .inv .4) test (omega arith) (b .result) (g .result) (b .ensures .0) (g .ensures .0)
-    (λ i. c .before .before .before .before .before .before .before .before .before .before .before .before .shared-slice-known .given i .fits)
-    (λ i. c .before .before .before .before .before .before .before .before .before .before .before .shared-slice-known2 .given i .fits)
-    (l .inv .2) (l .inv .3)
-    (sym (c .before .before .before .before .before .same-entry .ensures) ∙ not-true _ (c .before .before .before .before .if2 .taken))
-    _ (c .blender-rest2 .ensures) (le-ltb (g .result .entry .ratio) (b .result .entry .ratio) (omega (arith, c .before .if3 .left)))
+    let d = c .before .before in
+    differing d _ false (le-ltb (gauges-ratio d) (blenders-ratio d) (omega (arith, c .before .if3 .left))) (c .blender-rest2 .ensures)
 
 loop-again : tie.Need-loop-again Inv-loop μ-loop
 loop-again c =
