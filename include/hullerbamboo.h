@@ -22,8 +22,8 @@
  *     before that, with a copy of head and area, or after another load of the same checkpoint.
  *
  * Secret: the key, the area, a checkpoint, what hc_load returns, and the word of a head, which is four bytes of keystream from position 1 on. The
- * area and a checkpoint are as secret as the key, since hc_recover finds the key in them. hc_load and hc_recover work on a copy of the tables on the
- * stack, and no call wipes its stack.
+ * area and a checkpoint are as secret as the key, since hc_recover finds the key in them. hc_load, hc_recover and hc_same_run work on a copy of the
+ * tables on the stack, and no call wipes its stack.
  *
  * Refusal 13: each step changes one word of the area and makes one word, four bytes, of keystream. A head's word is the one that the last step made,
  * and 0 at position 0. hc_cipher, hc_encipher_volume, hc_move, hc_write and hc_recover work it out from the area and compare. So a head with an area
@@ -118,6 +118,7 @@ enum hc_refusal {
     HC_VOLUME_NUMBER = 14, /* a number of the volume is not in its shortest form, or its third group announces another */
     HC_VOLUME_RANGE = 15,  /* a number of the volume, or of the entries to write, is out of its range */
     HC_VOLUME_ENDS = 16,   /* the volume ends early or has bytes after its last entry; or the numbers to write are not whole entries */
+    HC_TWO_CIPHERS = 23,   /* the two checkpoints are of different ciphers */
     HC_BAD_RATES = 24,     /* a number of the table of rates is not in its shortest form, its third group announces another, or it is out of its
                               range; or the table ends early or has bytes after its last pair */
     HC_RATES_ORDER = 25    /* a product of the table of rates is not above the one before it */
@@ -149,6 +150,12 @@ struct hc_words {
 struct hc_count {
     uint64_t refusal;
     uint64_t count;
+};
+
+/* What hc_same_run returns. yes is 1 for yes and 0 for no, and 0 where the call is refused. */
+struct hc_yes_or_no {
+    uint64_t refusal;
+    uint64_t yes;
 };
 
 /* A table of rates: the rate of product p is cents[p - 1], in cents per litre. The table in use is yours. Start with what hc_our_rates returns and
@@ -229,6 +236,21 @@ uint64_t hc_recover(struct hc_head *head, const uint32_t *area, size_t area_word
  * up and checks the key and IV that it finds there.
  * Refusals: 9, 1, 4, then for the position 10 or 9, then 5, 11, 12. Stack: 8,736 bytes. */
 struct hc_words hc_load(struct hc_head *head, uint32_t *area, size_t area_words, const uint8_t *string, size_t string_bytes);
+
+/* Same run: whether two checkpoints belong to one run, which means that they have the same key and IV, at whatever positions. It is yes exactly where
+ * loading first, moving by the position of second less that of first and writing gives second, byte for byte. first and second are a checkpoint each
+ * and no byte more. No area and no head is needed. A run that was set up again with the same key and IV can't be told from the first. For each
+ * checkpoint it takes every step back to set up, as hc_load does, so that the time grows with both positions.
+ * Refusals: those of hc_load but for 4, which is about an area: 9, 1, then for the position 10 or 9, then 5, 11, 12, for first; then these for
+ * second; then 23 where the two are of different ciphers. Stack: 8,736 bytes.
+ *
+ * Whether a spare board's checkpoint is of the run that this one belongs to:
+ *
+ *     struct hc_yes_or_no same = hc_same_run(box, box_bytes, spare, spare_bytes);
+ *     if (same.refusal == HC_OK && same.yes)
+ *         puts("the same run");
+ */
+struct hc_yes_or_no hc_same_run(const uint8_t *first, size_t first_bytes, const uint8_t *second, size_t second_bytes);
 
 /* Spent: how far the keystream has been used, which is the head's mark: the farthest position that a cipher call, or the enciphering of a volume,
  * reached since the last set up or load. Set up starts it at 0, load at the loaded position, and a move leaves it. A mark that you made up is taken

@@ -1,5 +1,5 @@
--- The cipher of a code is the one whose row has it. Assumes nothing.
-use mathlib.Core.Path.{_≡_, refl}
+-- The cipher of a code is the one whose row has it, and no two ciphers share a code. Assumes nothing.
+use mathlib.Core.Path.{_≡_, refl, ap}
 use mathlib.Core.Bool.{Bool, true, false, cond}
 use mathlib.Core.Option.{none, some}
 use Prim.Native.Nat.{ℕ}
@@ -14,6 +14,9 @@ pub code-of : (c : Cipher) → byCode (codeOf c) ≡ some c
 unfolding byCode
 code-of Hc128 = refl
 code-of Hc256 = refl
+
+pub same-code : (c d : Cipher) → codeOf c ≡ codeOf d → c ≡ d
+same-code c d e = let p = code-of c in let q = code-of d in cc (ap byCode e)
 
 picked : (code : ℕ) (a b : Bool) → eqb code 1 ≡ a → eqb code 2 ≡ b → (c : Cipher) → cond a (some Hc128) (cond b (some Hc256) none) ≡ some c
     → code ≡ codeOf c

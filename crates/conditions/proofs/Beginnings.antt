@@ -1,5 +1,5 @@
--- The conditions of load up to 11, line by line. Assumes nothing.
-use mathlib.Core.Path.{_≡_, refl, sym, ap, _∙_}
+-- The conditions of a checkpoint's string up to 11, line by line, with an area and without. Assumes nothing.
+use mathlib.Core.Path.{_≡_, refl, sym, ap, _∙_, subst}
 use mathlib.Core.List.{List, [], _∷_}
 use mathlib.Core.Option.{none, some}
 use Prim.Native.Nat.{ℕ, _-_, _*_, _≤_, _<_}
@@ -14,8 +14,8 @@ use Rattle.checkpoint.specs.Checkpoint.{mostGroups}
 use Rattle.conditions.specs.declared.Beginning.{Beginning}
 use Rattle.laws.specs.Result.{Result, refused, accepted, resultOf}
 use Rattle.conditions.specs.Limit.{limit}
-use Rattle.conditions.specs.Conditions.{PositionRead, positionRead, firstByte, loadCheck}
-use Rattle.conditions.specs.Checks.{BeginningIs}
+use Rattle.conditions.specs.Conditions.{PositionRead, positionRead, firstByte, Contents, cipherIn, contentsIn, loadCheck, stringCheck}
+use Rattle.conditions.specs.Checks.{BeginningIs, ContentsBegin, LoadBegins}
 use Rattle.reader.specs.declared.Position.{Position}
 use Rattle.reader.specs.Readings.{positionOf}
 use Rattle.reader.proofs.Positions.{position-cases}
@@ -36,84 +36,115 @@ no-byte : (string : List ℕ) → length string ≡ 0 → firstByte string ≡ n
 no-byte [] h = refl
 no-byte (b ∷ string) h = absurd (omega arith)
 
--- a refusal, whatever its number, as the code answers it
-module _ (string : List ℕ) (size : ℕ) (r : Beginning) where
-  refuses : (n : ℕ) → (n ≡ 0 → ⊥) → r ≡ record { refusal = n; cipher = Hc128; position = 0; next = 0 } → loadCheck string size ≡ refused n
-      → BeginningIs string size r
-  refuses n h e x =
-      let never : r .refusal ≡ 0 → ⊥ = λ z. h (sym (ap (λ (q : Beginning). q .refusal) e) ∙ z) in
-      record {
-        refused-is = λ _. x ∙ rw e;
-        passed-is = λ z. absurd (never z);
-        beside = λ _. rw e;
-        area-is = λ z. absurd (never z);
-        within = λ z. absurd (never z);
-        string-is = λ z. absurd (never z);
-      }
+-- ── the first byte ──
 
-  pub begins-empty : length string ≡ 0 → r ≡ record { refusal = 9; cipher = Hc128; position = 0; next = 0 } → BeginningIs string size r
-  unfolding loadCheck
-  begins-empty l e = refuses 9 (λ z. omega arith) e (rw (no-byte string l))
+module _ (string : List ℕ) where
+  pub cipher-empty : length string ≡ 0 → cipherIn string ≡ refused 9
+  unfolding cipherIn
+  cipher-empty l = rw (no-byte string l)
 
   module _ (some-bytes : length string ≡ 0 → ⊥) where
-    pub begins-unknown : byCode (getD string 0 0) ≡ none → r ≡ record { refusal = 1; cipher = Hc128; position = 0; next = 0 }
-        → BeginningIs string size r
+    pub cipher-unknown : byCode (getD string 0 0) ≡ none → cipherIn string ≡ refused 1
+    unfolding cipherIn
+    cipher-unknown k = rw (first-byte string some-bytes, k)
+
+    pub cipher-known : (c : Cipher) → byCode (getD string 0 0) ≡ some c → cipherIn string ≡ accepted c
+    unfolding cipherIn
+    cipher-known c k = rw (first-byte string some-bytes, k)
+
+-- ── a refusal, whatever its number, as the code answers it ──
+
+abbrev Without : Beginning → ℕ → Type 0
+Without r n = r ≡ record { refusal = n; cipher = Hc128; position = 0; next = 0 }
+
+module _ (string : List ℕ) (X : Result Contents) (r : Beginning) (n : ℕ) (some : n ≡ 0 → ⊥) (e : Without r n) where
+  never : r .refusal ≡ 0 → ⊥
+  never z = some (sym (ap (λ (q : Beginning). q .refusal) e) ∙ z)
+
+  refuses : X ≡ refused n → BeginningIs string X r
+  refuses x = record {
+    refused-is = λ _. x ∙ rw e;
+    passed-is = λ z. absurd (never z);
+    beside = λ _. rw e;
+    within = λ z. absurd (never z);
+    string-is = λ z. absurd (never z);
+  }
+
+-- ── what comes after the first byte ──
+
+module _ (c : Cipher) (string : List ℕ) (r : Beginning) where
+  contents-refuse : (n : ℕ) → (n ≡ 0 → ⊥) → Without r n → contentsIn c string ≡ refused n → ContentsBegin c string r
+  contents-refuse n h e x = record { is = refuses string _ r n h e x; cipher-is = λ z. absurd (never string (contentsIn c string) r n h e z) }
+
+  pub contents-no-position : (n : ℕ) → (n ≡ 0 → ⊥) → positionRead (readNumber mostGroups (drop 1 string)) ≡ refused n → Without r n
+      → ContentsBegin c string r
+  unfolding contentsIn
+  contents-no-position n h p e = contents-refuse n h e (rw p)
+
+  module _ (position next : ℕ)
+      (p : positionRead (readNumber mostGroups (drop 1 string)) ≡ accepted (record { position = position; rest = drop next string })) where
+    pub contents-past-limit : limit < position → Without r 5 → ContentsBegin c string r
+    unfolding contentsIn
+    contents-past-limit l e = contents-refuse 5 (λ z. omega arith) e (rw (p, lt-leb position limit l))
+
+    module _ (l : position ≤ limit) where
+      pub contents-other-length : (n : ℕ) → n ≡ areaLength c → (length string - next ≡ 4 * n → ⊥) → Without r 11 → ContentsBegin c string r
+      unfolding contentsIn
+      contents-other-length n q w e =
+          let other : length (drop next string) ≡ 4 * areaLength c → ⊥ =
+          λ z. w (sym (length-drop next string) ∙ z ∙ ap (λ (x : ℕ). 4 * x) (sym q)) in
+          contents-refuse 11 (λ z. omega arith) e
+          (rw (p, le-leb position limit l, ne-eqb (length (drop next string)) (4 * areaLength c) other))
+
+      pub contents-begin : (n : ℕ) → n ≡ areaLength c → length string - next ≡ 4 * n → next ≤ length string
+          → r ≡ record { refusal = 0; cipher = c; position = position; next = next } → ContentsBegin c string r
+      unfolding contentsIn
+      contents-begin n q w i e =
+          let left : length (drop next string) ≡ 4 * areaLength c = length-drop next string ∙ w ∙ ap (λ (x : ℕ). 4 * x) q in
+          rw e
+          (record {
+            is = record {
+              refused-is = λ h. absurd (h refl);
+              beside = λ h. absurd (h refl);
+              passed-is = λ z. rw (p, le-leb position limit l, eq-eqb (length (drop next string)) (4 * areaLength c) left);
+              within = λ z. l;
+              string-is = λ z. omega arith;
+            };
+            cipher-is = λ z. refl;
+          })
+
+-- ── with an area, as load has it ──
+
+module _ (string : List ℕ) (size : ℕ) (r : Beginning) where
+  load-refuses : (n : ℕ) → (n ≡ 0 → ⊥) → Without r n → loadCheck string size ≡ refused n → LoadBegins string size r
+  load-refuses n h e x = record { is = refuses string _ r n h e x; area-is = λ z. absurd (never string (loadCheck string size) r n h e z) }
+
+  pub load-no-cipher : (n : ℕ) → (n ≡ 0 → ⊥) → cipherIn string ≡ refused n → Without r n → LoadBegins string size r
+  unfolding loadCheck
+  load-no-cipher n h k e = load-refuses n h e (rw k)
+
+  module _ (c : Cipher) (k : cipherIn string ≡ accepted c) where
+    pub load-other-size : (size ≡ areaLength c → ⊥) → Without r 4 → LoadBegins string size r
     unfolding loadCheck
-    begins-unknown k e = refuses 1 (λ z. omega arith) e (rw (first-byte string some-bytes, k))
+    load-other-size s e = load-refuses 4 (λ z. omega arith) e (rw (k, ne-eqb size (areaLength c) s))
 
-    module _ (c : Cipher) (k : byCode (getD string 0 0) ≡ some c) where
-      pub begins-other-size : (size ≡ areaLength c → ⊥) → r ≡ record { refusal = 4; cipher = Hc128; position = 0; next = 0 }
-          → BeginningIs string size r
-      unfolding loadCheck
-      begins-other-size s e = refuses 4 (λ z. omega arith) e (rw (first-byte string some-bytes, k, ne-eqb size (areaLength c) s))
+    sized : size ≡ areaLength c → loadCheck string size ≡ contentsIn c string
+    unfolding loadCheck
+    sized s = rw (k, eq-eqb size (areaLength c) s)
 
-      module _ (s : size ≡ areaLength c) where
-        pub begins-no-position : (n : ℕ) → (n ≡ 0 → ⊥) → positionRead (readNumber mostGroups (drop 1 string)) ≡ refused n
-            → r ≡ record { refusal = n; cipher = Hc128; position = 0; next = 0 } → BeginningIs string size r
-        unfolding loadCheck
-        begins-no-position n h p e = refuses n h e (rw (first-byte string some-bytes, k, eq-eqb size (areaLength c) s, p))
+    pub load-begins : size ≡ areaLength c → ContentsBegin c string r → LoadBegins string size r
+    load-begins s h = record {
+      is = subst (λ (X : Result Contents). BeginningIs string X r) (sym (sized s)) (h .is);
+      area-is = λ z. s ∙ ap areaLength (sym (h .cipher-is z));
+    }
 
-        module _ (position next : ℕ)
-            (p : positionRead (readNumber mostGroups (drop 1 string)) ≡ accepted (record { position = position; rest = drop next string })) where
-          pub begins-past-limit : limit < position → r ≡ record { refusal = 5; cipher = Hc128; position = 0; next = 0 } → BeginningIs string size r
-          unfolding loadCheck
-          begins-past-limit l e =
-              refuses 5 (λ z. omega arith) e
-              (rw (first-byte string some-bytes, k, eq-eqb size (areaLength c) s, p, lt-leb position limit l))
+-- ── without an area ──
 
-          module _ (l : position ≤ limit) where
-            pub begins-other-length : (n : ℕ) → n ≡ areaLength c → (length string - next ≡ 4 * n → ⊥)
-                → r ≡ record { refusal = 11; cipher = Hc128; position = 0; next = 0 } → BeginningIs string size r
-            unfolding loadCheck
-            begins-other-length n q w e =
-                refuses 11 (λ z. omega arith) e
-                (rw (
-                  first-byte string some-bytes,
-                  k,
-                  eq-eqb size (areaLength c) s,
-                  p,
-                  le-leb position limit l,
-                  ne-eqb (length (drop next string)) (4 * areaLength c) (λ z. w (sym (length-drop next string) ∙ z ∙ ap (λ (x : ℕ). 4 * x) (sym q))),
-                ))
+module _ (string : List ℕ) (r : Beginning) where
+  pub string-no-cipher : (n : ℕ) → (n ≡ 0 → ⊥) → cipherIn string ≡ refused n → Without r n → BeginningIs string (stringCheck string) r
+  unfolding stringCheck
+  string-no-cipher n h k e = refuses string _ r n h e (rw k)
 
-            pub begins : (n : ℕ) → n ≡ areaLength c → length string - next ≡ 4 * n → next ≤ length string
-                → r ≡ record { refusal = 0; cipher = c; position = position; next = next } → BeginningIs string size r
-            unfolding loadCheck
-            begins n q w i e =
-                let left : length (drop next string) ≡ 4 * areaLength c = length-drop next string ∙ w ∙ ap (λ (x : ℕ). 4 * x) q in
-                rw e
-                (record {
-                  refused-is = λ h. absurd (h refl);
-                  beside = λ h. absurd (h refl);
-                  passed-is = λ z. rw (
-                    first-byte string some-bytes,
-                    k,
-                    eq-eqb size (areaLength c) s,
-                    p,
-                    le-leb position limit l,
-                    eq-eqb (length (drop next string)) (4 * areaLength c) left,
-                  );
-                  area-is = λ z. s;
-                  within = λ z. l;
-                  string-is = λ z. omega arith;
-                })
+  pub string-begins : (c : Cipher) → cipherIn string ≡ accepted c → ContentsBegin c string r → BeginningIs string (stringCheck string) r
+  unfolding stringCheck
+  string-begins c k h = rw k (h .is)

@@ -15,7 +15,7 @@ use Rattle.conditions.specs.Limit.{limit}
 use Rattle.conditions.specs.Checks.{checkedIs, Sized, Ready, ReadyWithWord, HeadReady}
 
 module _ (r : Checked) (X : Result Cipher) (n : ℕ) (some : n ≡ 0 → ⊥) (e : r ≡ record { refusal = n; cipher = Hc128 }) (x : X ≡ refused n) where
-  refused-is : checkedIs r ≡ X
+  pub refused-is : checkedIs r ≡ X
   refused-is = rw (e, x, ne-eqb n 0 some)
 
   never : r .refusal ≡ 0 → ⊥
@@ -38,7 +38,7 @@ module _ (r : Checked) (X : Result Cipher) (n : ℕ) (some : n ≡ 0 → ⊥) (e
   refused-head position = (refused-is, record { beside = beside; within = λ z. absurd (never z) })
 
 module _ (r : Checked) (X : Result Cipher) (c : Cipher) (e : r ≡ record { refusal = 0; cipher = c }) (x : X ≡ accepted c) where
-  passed-is : checkedIs r ≡ X
+  pub passed-is : checkedIs r ≡ X
   passed-is = rw (e, x)
 
   none-beside : (r .refusal ≡ 0 → ⊥) → r .cipher ≡ Hc128

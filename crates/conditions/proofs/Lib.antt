@@ -2,3 +2,4 @@ pub mod Conditions
 pub mod Checks
 pub mod Ends
 pub mod Beginnings
+pub mod Undo

@@ -15,7 +15,7 @@ use Rattle.conditions.specs.declared.Distance.{Distance}
 use Rattle.conditions.specs.declared.Distance.the-variants.{Forward, Back}
 use Rattle.laws.specs.Result.{Result, refused, resultOf}
 use Rattle.conditions.specs.Limit.{limit}
-use Rattle.conditions.specs.Conditions.{endOf, loadCheck, loadFound}
+use Rattle.conditions.specs.Conditions.{endOf, Contents, loadFound, contentsIn, loadCheck}
 
 -- the result of a call's conditions, and the end of a move
 abbrev pub checkedIs : Checked → Result Cipher
@@ -57,11 +57,20 @@ pub record HeadReady (r : Checked) (position : ℕ) : Type 0 where
   pub beside : (r .refusal ≡ 0 → ⊥) → r .cipher ≡ Hc128
   pub within : r .refusal ≡ 0 → position ≤ limit
 
--- load's conditions up to 11; beside a refusal the cipher is HC-128, and position and place are 0
-pub record BeginningIs (string : List ℕ) (size : ℕ) (r : Beginning) : Type 0 where
-  pub refused-is : (r .refusal ≡ 0 → ⊥) → loadCheck string size ≡ refused (r .refusal)
-  pub passed-is : r .refusal ≡ 0 → loadCheck string size ≡ loadFound (r .cipher) (r .position) (drop (r .next) string)
+-- conditions of a string up to 11, where `result` is what they and 12 give; beside a refusal the cipher is HC-128, and position and place are 0
+pub record BeginningIs (string : List ℕ) (result : Result Contents) (r : Beginning) : Type 0 where
+  pub refused-is : (r .refusal ≡ 0 → ⊥) → result ≡ refused (r .refusal)
+  pub passed-is : r .refusal ≡ 0 → result ≡ loadFound (r .cipher) (r .position) (drop (r .next) string)
   pub beside : (r .refusal ≡ 0 → ⊥) → r ≡ record { refusal = r .refusal; cipher = Hc128; position = 0; next = 0 }
-  pub area-is : r .refusal ≡ 0 → size ≡ areaLength (r .cipher)
   pub within : r .refusal ≡ 0 → r .position ≤ limit
   pub string-is : r .refusal ≡ 0 → r .next + 4 * areaLength (r .cipher) ≡ length string
+
+-- those of what comes after the first byte, for a cipher
+pub record ContentsBegin (c : Cipher) (string : List ℕ) (r : Beginning) : Type 0 where
+  pub is : BeginningIs string (contentsIn c string) r
+  pub cipher-is : r .refusal ≡ 0 → r .cipher ≡ c
+
+-- those of load: the area has the cipher's size
+pub record LoadBegins (string : List ℕ) (size : ℕ) (r : Beginning) : Type 0 where
+  pub is : BeginningIs string (loadCheck string size) r
+  pub area-is : r .refusal ≡ 0 → size ≡ areaLength (r .cipher)

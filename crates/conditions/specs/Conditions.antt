@@ -1,6 +1,7 @@
 -- Document 01, 'Calls, with their refusals in order': the conditions that engine and account share, those of recover, and those of a head alone,
 -- which spent and checkpoint length have. The engine reads them with the head's code, position and word and with the tables; the account of demand 3 with
 -- its own code and position and the area's size, and so without the 13 that document 02 (a) puts straight after 5. Write's 8 is in the engine's Calls.
+-- Those of load are also read without an area, for document 02 (m).
 use mathlib.Core.List.{List, [], _∷_}
 use mathlib.Core.Option.{Option, none, some}
 use Prim.Native.Nat.{ℕ, _+_, _*_}
@@ -128,13 +129,29 @@ loadFound c position rest = do
   pair ← foundOr12 (undoAt c (words rest) position)
   accepted (record { cipher = c; key = pair .key; iv = pair .iv; position = position; area = words rest })
 
--- **Load** 9: no bytes. 1: first byte. 4: area. 10, 9, 10: the position. 5: over the limit. 11: the bytes left are not 4 times 2T. 12.
-unfoldable pub loadCheck : (string : List ℕ) (size : ℕ) → Result Contents
-loadCheck string size = do
+-- what a checkpoint begins with. 9: no bytes. 1: first byte.
+unfoldable pub cipherIn : (string : List ℕ) → Result Cipher
+cipherIn string = do
   code ← refuse 9 without firstByte string
-  c ← refuse 1 without byCode code
-  refuse 4 unless eqb size (areaLength c)
+  refuse 1 without byCode code
+
+-- what comes after the first byte, for this cipher. 10, 9, 10: the position. 5: over the limit. 11: the bytes left are not 4 times 2T. 12.
+unfoldable pub contentsIn : (c : Cipher) (string : List ℕ) → Result Contents
+contentsIn c string = do
   read ← positionRead (readNumber mostGroups (drop 1 string))
   refuse 5 unless leb (read .position) limit
   refuse 11 unless eqb (length (read .rest)) (4 * areaLength c)
   loadFound c (read .position) (read .rest)
+
+-- **Load** 9, 1. 4: area. 10, 9, 10, 5, 11, 12.
+unfoldable pub loadCheck : (string : List ℕ) (size : ℕ) → Result Contents
+loadCheck string size = do
+  c ← cipherIn string
+  refuse 4 unless eqb size (areaLength c)
+  contentsIn c string
+
+-- Document 02 (m), 'what load refuses of a string': 9, 1, 10, 9, 10, 5, 11, 12. There is no 4, since no area is lent.
+unfoldable pub stringCheck : (string : List ℕ) → Result Contents
+stringCheck string = do
+  c ← cipherIn string
+  contentsIn c string

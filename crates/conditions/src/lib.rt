@@ -1,6 +1,6 @@
 // Conditions of the calls, in the documents' order: those of set up; 1, 4, 5 and 13, which cipher, move, write and recover begin with; 1 and 5, those of
-// a head alone; the end of a move, 7 and 6; those of load up to 11. Each gives the refusal number of the first that fails, or what the call then works
-// with. The other conditions are tested in the calls.
+// a head alone; the end of a move, 7 and 6; those of load up to 11, with an area and without. Each gives the refusal number of the first that fails, or
+// what the call then works with. The other conditions are tested in the calls.
 ghost use mathlib.Core.Path.{_≡_};
 ghost use Prim.Native.Nat.{_≤_};
 ghost use Rattle.conditions.specs.Limit.{limit};
@@ -169,6 +169,20 @@ pub fn end_of(position: u64, distance: i64) -> End
     }
 }
 
+// The cipher that a checkpoint begins with: 9 where there are no bytes, 1 where the first is no cipher's code.
+fn cipher_in(string: &[u8]) -> Checked
+    ensures { λ r. ⌜ Checks.checkedIs r ≡ Conditions.cipherIn (now (string .entry)) ⌝ }
+{
+    if string.len() == 0 {
+        return refused(9);
+    }
+    let known = cipher::by_code(string[0] as u32);
+    let Known::Is(c) = known else {
+        return refused(1);
+    };
+    passed(c)
+}
+
 // What a checkpoint begins with, once every condition of load but the last holds: its cipher and position, and where its words begin.
 pub struct Beginning {
     pub refusal: u64,
@@ -188,21 +202,10 @@ fn no_beginning(refusal: u64) -> Beginning
     }
 }
 
-// The conditions of load up to 11.
-pub fn load_check(string: &[u8], size: usize) -> Beginning
-    ensures { λ r. ⌜ Checks.BeginningIs (now (string .entry)) size r ⌝ }
+// The conditions of what comes after the first byte, up to 11.
+fn beginning_in(cipher: Cipher, string: &[u8]) -> Beginning
+    ensures { λ r. ⌜ Checks.ContentsBegin cipher (now (string .entry)) r ⌝ }
 {
-    if string.len() == 0 {
-        return no_beginning(9);
-    }
-    let known = cipher::by_code(string[0] as u32);
-    let Known::Is(c) = known else {
-        return no_beginning(1);
-    };
-    let n = cipher::area_words(c);
-    if size != n {
-        return no_beginning(4);
-    }
     let read = reader::read_position(string);
     let refusal = read.refusal;
     if refusal != 0 {
@@ -213,13 +216,42 @@ pub fn load_check(string: &[u8], size: usize) -> Beginning
         return no_beginning(5);
     }
     let next = read.next;
-    if string.len() - next != 4 * n {
+    if string.len() - next != 4 * cipher::area_words(cipher) {
         return no_beginning(11);
     }
     Beginning {
         refusal: 0,
-        cipher: c,
+        cipher: cipher,
         position: stated,
         next: next,
     }
+}
+
+// The conditions of load up to 11.
+pub fn load_check(string: &[u8], size: usize) -> Beginning
+    ensures { λ r. ⌜ Checks.LoadBegins (now (string .entry)) size r ⌝ }
+{
+    let checked = cipher_in(string);
+    let refusal = checked.refusal;
+    if refusal != 0 {
+        return no_beginning(refusal);
+    }
+    let c = checked.cipher;
+    if size != cipher::area_words(c) {
+        return no_beginning(4);
+    }
+    beginning_in(c, string)
+}
+
+// The conditions of load up to 11, without an area and so without 4.
+pub fn string_check(string: &[u8]) -> Beginning
+    ensures { λ r. ⌜ Checks.BeginningIs (now (string .entry)) (Conditions.stringCheck (now (string .entry))) r ⌝ }
+{
+    let checked = cipher_in(string);
+    let refusal = checked.refusal;
+    if refusal != 0 {
+        return no_beginning(refusal);
+    }
+    let c = checked.cipher;
+    beginning_in(c, string)
 }

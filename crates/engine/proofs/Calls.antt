@@ -23,8 +23,6 @@ use Rattle.keystream.proofs.Positions.{moved-on}
 use Rattle.volume.specs.declared.Entry.{Entry}
 use Rattle.volume.specs.Calls.{entriesIn}
 use Rattle.setup.specs.SetUp as SetUp
-use Rattle.setup.specs.SetUp.{none, found}
-use Rattle.setup.proofs.Inverse.{undo-not-filled, undo-filled}
 use Rattle.checkpoint.specs.Checkpoint.{layout, lengthOf}
 use Rattle.recovery.specs.Recovery.{filledAt}
 use Rattle.engine.specs.declared.Head.{Head}
@@ -32,6 +30,7 @@ use Rattle.laws.specs.Result.{refused, accepted}
 use Rattle.conditions.specs.Limit.{limit}
 use Rattle.engine.specs.Head.{headAt, markAfter}
 use Rattle.conditions.specs.Conditions.{setUpCheck, headCheck, cipherCheck, endOf, moveCheck, undoAt, recoverCheck, loadFound, loadCheck}
+use Rattle.conditions.proofs.Undo.{none-at, found-at}
 use Rattle.engine.specs.Calls.{engineOf, headReady, setUp, setUpCall, cipher, cipherCall, encipherVolume, encipherVolumeCall, move, moveCall, write, writeCall, checkpointLength, checkpointLengthCall, recover, recoverCall, eightWords, load, loadCall, spent, spentCall}
 
 module _ (h : Head) (code : ℕ) (key iv area : List ℕ) where
@@ -143,17 +142,6 @@ module _ (code position : ℕ) where
       → record { refusal = 0; value = n } ≡ checkpointLengthCall code position
   unfolding checkpointLengthCall checkpointLength
   length-told c e n p = rw (e, p)
-
--- the tables at a position lead back to a key and an IV exactly where the filled area is one that an expansion fills
-module _ (c : Cipher) (s : List ℕ) (position : ℕ) where
-  pub none-at : isFilled c (filledAt c s position) ≡ false → undoAt c s position ≡ none
-  unfolding undoAt
-  none-at f = undo-not-filled c _ f
-
-  pub found-at : isFilled c (filledAt c s position) ≡ true
-      → undoAt c s position ≡ found (keyOf c (origin c (filledAt c s position))) (ivOf c (origin c (filledAt c s position)))
-  unfolding undoAt
-  found-at f = undo-filled c _ f
 
 module _ (h : Head) (area key iv : List ℕ) where
   pub recover-refused : (n : ℕ) → headReady h area ≡ refused n

@@ -15,7 +15,7 @@ use Rattle.engine.specs.declared.Head.{Head}
 use Rattle.engine.specs.declared.answers.Done.{Done}
 use Rattle.laws.specs.Result.{Result, refused, accepted, Outcome, outcome}
 use Rattle.conditions.specs.Limit.{limit}
-use Rattle.conditions.specs.Conditions.{ready, readyWithWord, cipherCheck, undoAt, foundOr12, positionRead, loadCheck}
+use Rattle.conditions.specs.Conditions.{ready, readyWithWord, cipherCheck, undoAt, foundOr12, positionRead, cipherIn, contentsIn, loadCheck}
 use Rattle.engine.specs.Calls.{headReady, Ciphered, cipher, cipherCall}
 use Rattle.engine.specs.Answers as Answers
 use Rattle.laws.proofs.Results.{no-refusal, accepted-one, after-line, after-without, after-unless}
@@ -61,7 +61,7 @@ position-not-0 ended e = other 9 0 (λ z. omega arith) e
 position-not-0 malformed e = other 10 0 (λ z. omega arith) e
 
 pub load-not-0 : (string : List ℕ) (size : ℕ) → loadCheck string size ≡ refused 0 → ⊥
-unfolding loadCheck
+unfolding loadCheck cipherIn contentsIn
 load-not-0 [] size e = other 9 0 (λ z. omega arith) e
 load-not-0 (b ∷ tail) size e =
     let read = readNumber mostGroups tail in

@@ -43,11 +43,10 @@ use Rattle.theorems.proofs.Conditions.{accepted-only, word-shows, word-accepted
 use Rattle.theorems.proofs.Checkpoints.{loadedOf, load-checkpoint}
 use Rattle.theorems.proofs.Twice.{ciphered-twice}
 use Rattle.theorems.proofs.HeadMark.{head-mark}
-use Rattle.theorems.proofs.Tables.{moved-area, four-sized, four-true, four-moved, undo-finds}
+use Rattle.theorems.proofs.Tables.{ends-at, moved-area, four-sized, four-true, four-moved, undo-finds}
 use Rattle.lab.specs.Tasks.{cipherOf, loadFresh, moveTo, loadAndMove, openCheckpoint, setUpAt, thenWrite, writeAt, rewriteAt, recoverFrom}
 use Rattle.lab.specs.FromCheckpoint.{cipherAfter, streamed, engineStreamed, Spends, checkpointPut, FromCheckpoint}
 use Rattle.lab.proofs.Advance.{load-not-0}
-use Rattle.lab.proofs.Tasks.{ends-at}
 
 -- ── load ──
 

@@ -9,7 +9,7 @@ use mir.Syntax.{w64}
 use mir.Val.{SFits, toZ, ofZ}
 use mir.ValLaws.{toZ-ofZ, toZ-pos}
 use lib.Dec.{ltb}
-use lib.IntN.{ℤ, pos, negsuc, negℤ, _+ℤ_, _-ℤ_, +ℤ-comm, +ℤ-idl, -ℤ-+ℤ-cancel}
+use lib.IntN.{ℤ, pos, negsuc, negℤ, _+ℤ_, _-ℤ_, +ℤ-idl}
 use lib.ListN.{length, drop, length-append}
 use lib.Seq.{length-take-le}
 use Rattle.cipher.specs.declared.Cipher.{Cipher}
@@ -26,6 +26,7 @@ use Rattle.engine.specs.Calls as Calls
 use Rattle.engine.specs.Answers as Answers
 use Rattle.engine.proofs.Calls.{move-refused, move-unreached}
 use Rattle.theorems.specs.Demand3.{given}
+use Rattle.theorems.proofs.Tables.{ends-at}
 use Rattle.theorems.proofs.Conditions.{word-shows}
 use Rattle.theorems.proofs.Writes.{write-shows}
 use Rattle.lab.specs.Tasks as Tasks
@@ -38,10 +39,6 @@ unfolding loadFresh
 loaded-is h string area s r f e = rw (← f, ← e)
 
 -- ── moves to a position ──
-
--- the distance from p to q ends at q
-pub ends-at : (p q : ℕ) → pos p +ℤ (pos q -ℤ pos p) ≡ pos q
-ends-at p q = +ℤ-comm (pos p) (pos q -ℤ pos p) ∙ -ℤ-+ℤ-cancel (pos q) (pos p)
 
 module _ (h : Head) (area : List ℕ) where
   -- from a position over the limit every distance gives the same refusal

@@ -29,6 +29,12 @@ pub not-true-is-false : (t : Bool) → (t ≡ true → ⊥) → t ≡ false
 not-true-is-false true h = absurd (h refl)
 not-true-is-false false h = refl
 
+-- two tests that are true in the same cases
+pub true-alike : (a b : Bool) → (a ≡ true → b ≡ true) → (b ≡ true → a ≡ true) → a ≡ b
+true-alike true b there back = sym (there refl)
+true-alike false true there back = back refl
+true-alike false false there back = refl
+
 same-refl : (l : List ℕ) → same l l ≡ true
 unfolding same
 same-refl [] = refl

@@ -9,6 +9,7 @@ use Rattle.laws.proofs.Iterate.{forward-none}
 use Rattle.word.specs.Bytes.{AllBytes}
 use Rattle.cipher.specs.declared.Cipher.{Cipher}
 use Rattle.cipher.specs.Numbers.{byCode, codeOf, areaLength}
+use Rattle.cipher.proofs.Codes.{same-code}
 use Rattle.tables.specs.Step.{step}
 use Rattle.keys.specs.Key.{Pair}
 use Rattle.steps.specs.Steps.{moved, wordAt}
@@ -26,7 +27,7 @@ use Rattle.theorems.specs.Account.{Call, call-set-up, call-cipher, call-
 use Rattle.theorems.specs.Farthest.{withEnd, reachedBy, reachedSince, largest}
 use Rattle.laws.proofs.Results.{no-refusal, outcome-same, accepted-one, after-first, after-line}
 use Rattle.theorems.proofs.Tables.{four-sized, four-ready, four-true, four-moved}
-use Rattle.theorems.proofs.Conditions.{same-code, no-code-0, ready-shows, set-up-shows, cipher-shows, move-shows}
+use Rattle.theorems.proofs.Conditions.{no-code-0, ready-shows, set-up-shows, cipher-shows, move-shows}
 use Rattle.theorems.proofs.Checkpoints.{fourOf, load-shows}
 use Rattle.theorems.proofs.Writes.{write-shows}
 

@@ -7,7 +7,7 @@ use lib.ListN.{length}
 use Rattle.cipher.specs.declared.Cipher.{Cipher}
 use Rattle.cipher.specs.declared.Cipher.the-variants.{Hc128}
 use Rattle.cipher.specs.Numbers.{byCode, codeOf}
-use Rattle.cipher.proofs.Codes.{code-of}
+use Rattle.cipher.proofs.Codes.{code-of, same-code}
 use Rattle.cipher.proofs.Sizes.{sizes}
 use Rattle.steps.specs.Steps.{lastOutput}
 use Rattle.varint.proofs.Groups.{number-last, number-count}
@@ -22,7 +22,7 @@ use Rattle.engine.specs.Calls.{headReady, Written, write, checkpointLength, che
 use Rattle.theorems.specs.Demand3.{given}
 use Rattle.theorems.specs.CheckpointLength.{CheckpointLength}
 use Rattle.laws.proofs.Results.{no-refusal, accepted-one, after-line}
-use Rattle.theorems.proofs.Conditions.{same-code, word-shows, word-accepted, head-shows}
+use Rattle.theorems.proofs.Conditions.{word-shows, word-accepted, head-shows}
 use Rattle.theorems.proofs.Writes.{write-shows, write-enough, write-too-few, write-iff, write-8-iff}
 
 returned : (h : Head) (area lent : List ℕ) (w : Written) (c : Cipher)

@@ -12,6 +12,7 @@ use Rattle.varint.specs.Number.{number}
 use Rattle.varint.proofs.Reading.{read-written, written-read}
 use Rattle.cipher.specs.declared.Cipher.{Cipher}
 use Rattle.cipher.specs.Numbers.{areaLength}
+use Rattle.cipher.proofs.Codes.{same-code}
 use Rattle.tables.specs.Area.{Area}
 use Rattle.laws.specs.Result.{accepted}
 use Rattle.conditions.specs.Limit.{limit}
@@ -20,7 +21,7 @@ use Rattle.conditions.specs.Conditions.{undoAt, foundOr12, Contents, loadCheck}
 use Rattle.theorems.specs.Account.{Four, tablesOf, checkpointOf, Checkpoint}
 use Rattle.laws.proofs.Results.{no-refusal, accepted-one, after-line}
 use Rattle.theorems.proofs.Tables.{undo-finds, found-have, four-area}
-use Rattle.theorems.proofs.Conditions.{same-code, accepted-only, found-shows, LoadPassed, load-finds, load-passed}
+use Rattle.theorems.proofs.Conditions.{accepted-only, found-shows, LoadPassed, load-finds, load-passed}
 
 abbrev pub fourOf : Contents → Four
 fourOf l = record { cipher = l .cipher; key = l .key; iv = l .iv; position = l .position }

@@ -17,14 +17,11 @@ use Rattle.setup.specs.SetUp.{Undone, none, found}
 use Rattle.laws.specs.Result.{Result, refused, accepted}
 use Rattle.conditions.specs.Limit.{limit}
 use Rattle.checkpoint.specs.Checkpoint.{mostGroups}
-use Rattle.conditions.specs.Conditions.{setUpCheck, ready, readyWithWord, headCheck, cipherCheck, within, endOf, Course, moveCheck, undoAt, KeyAndIv, foundOr12, recoverCheck, PositionRead, positionRead, Contents, loadFound, loadCheck}
+use Rattle.conditions.specs.Conditions.{setUpCheck, ready, readyWithWord, headCheck, cipherCheck, within, endOf, Course, moveCheck, undoAt, KeyAndIv, foundOr12, recoverCheck, PositionRead, positionRead, Contents, loadFound, cipherIn, contentsIn, loadCheck}
 use Rattle.conditions.proofs.Conditions.{ready-accepted, word-true}
 use Rattle.laws.proofs.Results.{no-refusal, accepted-one, after-line, after-without, after-unless}
 
 -- ── codes ──
-
-pub same-code : (c d : Cipher) → codeOf c ≡ codeOf d → c ≡ d
-same-code c d e = let p = code-of c in let q = code-of d in cc (ap byCode e)
 
 pub no-code-0 : (c : Cipher) → 0 ≡ codeOf c → ⊥
 no-code-0 Hc128 e = omega arith
@@ -224,7 +221,7 @@ pub record LoadPassed (string : List ℕ) (size : ℕ) (c : Cipher) (p : ℕ) (r
 -- where they hold, what undoing finds decides, ..
 pub load-finds : (string : List ℕ) (size : ℕ) (c : Cipher) (p : ℕ) (rest : List ℕ) → LoadPassed string size c p rest
     → loadCheck string size ≡ loadFound c p rest
-unfolding loadCheck
+unfolding loadCheck cipherIn contentsIn
 load-finds string size c p rest h =
     rw (
       h .string-is,
@@ -238,7 +235,7 @@ load-finds string size c p rest h =
 -- .. and they hold where the outcome x is no refusal but 12
 pub load-passed : (string : List ℕ) (size : ℕ) {x : Result Contents} → Only12 x → loadCheck string size ≡ x
     → (c : Cipher) × (p : ℕ) × (rest : List ℕ) × LoadPassed string size c p rest × (loadFound c p rest ≡ x)
-unfolding loadCheck
+unfolding loadCheck cipherIn contentsIn
 load-passed [] size only e = absurd (omega (arith, only 9 (sym e)))
 load-passed (b ∷ tail) size only e =
     let read = readNumber mostGroups tail in

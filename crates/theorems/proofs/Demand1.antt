@@ -1,12 +1,12 @@
 -- Every refusal of a call is one of its own numbers, since each line of its conditions has one of them; and a refused call leaves what was there.
 -- Assumes nothing.
-use Prim.Native.Nat.{_+_, _*_, _%_}
+use mathlib.Core.Bool.{false}
+use mathlib.Core.List.{List, [], _∷_}
+use Prim.Native.Nat.{ℕ, _+_, _*_, _%_}
 use lib.Dec.{eqb, leb}
 use lib.IntN.{pos, _+ℤ_}
-use lib.ListN.{length, drop}
-use Rattle.word.specs.Bytes.{words}
-use Rattle.cipher.specs.Numbers.{byCode, areaLength, keyLength, ivLength}
-use Rattle.varint.specs.Number.{readNumber}
+use lib.ListN.{length}
+use Rattle.cipher.specs.Numbers.{byCode, codeOf, areaLength, keyLength, ivLength}
 use Rattle.volume.specs.Volume.{inRange, countRange, entriesInRange, volumeString, entriesOf}
 use Rattle.volume.specs.Calls.{entriesIn, readVolume, readVolumeCall, writeVolume, writeVolumeCall}
 use Rattle.rates.specs.Calls.{loadRates, loadRatesCall}
@@ -14,15 +14,36 @@ use Rattle.soundness.specs.Found.{volumeSoundness}
 use Rattle.soundness.proofs.InVolume.{volume-fits}
 use Rattle.duty.specs.Calls.{volumeDuty, volumeDutyCall}
 use Rattle.comparison.specs.Comparison.{compareRecordings, compareRecordingsCall}
-use Rattle.checkpoint.specs.Checkpoint.{mostGroups, lengthOf}
+use Rattle.same_run.specs.SameRun.{sameRun, sameRunCall}
+use Rattle.checkpoint.specs.Checkpoint.{lengthOf}
 use Rattle.conditions.specs.Limit.{limit}
-use Rattle.conditions.specs.Conditions.{setUpCheck, headCheck, cipherCheck, within, endOf, moveCheck, undoAt, foundOr12, recoverCheck, positionRead, firstByte, loadCheck}
+use Rattle.conditions.specs.Conditions.{setUpCheck, headCheck, cipherCheck, within, endOf, moveCheck, undoAt, foundOr12, recoverCheck, cipherIn, loadCheck, stringCheck}
 use Rattle.engine.specs.Calls.{headReady, setUp, setUpCall, cipher, cipherCall, encipherVolume, encipherVolumeCall, move, moveCall, write, writeCall, checkpointLength, checkpointLengthCall, recover, recoverCall, load, loadCall, spent, spentCall}
 use Rattle.theorems.specs.Demand1.{Demand1}
-use Rattle.theorems.proofs.Within.{by-none, first, after, then-line, line-unless, line-without, first-line, answers, word-within, head-within, found-within, end-within, position-within, volume-within, rates-within}
+use Rattle.theorems.proofs.Within.{Within, by-none, first, after, then-line, line-unless, line-without, first-line, answers, word-within, head-within, found-within, end-within, cipher-within, contents-within, volume-within, rates-within}
+
+abbrev pub sameRunNumbers : List ℕ
+sameRunNumbers = 9 ∷ 1 ∷ 10 ∷ 9 ∷ 10 ∷ 5 ∷ 11 ∷ 12 ∷ 9 ∷ 1 ∷ 10 ∷ 9 ∷ 10 ∷ 5 ∷ 11 ∷ 12 ∷ 23 ∷ []
+
+-- the refusals of a checkpoint's string are among these numbers
+pub string-within : {others : List ℕ} (string : List ℕ) → Within (9 ∷ 1 ∷ 10 ∷ 9 ∷ 10 ∷ 5 ∷ 11 ∷ 12 ∷ others) (stringCheck string)
+unfolding stringCheck
+string-within string =
+    then-line (cipherIn string) _ (cipher-within string first (after first)) λ c.
+    contents-within c string first (after (after first)) (after (after (after (after (after first)))))
+    (after (after (after (after (after (after first)))))) (after (after (after (after (after (after (after first)))))))
+
+-- those of two checkpoints
+pub same-run-within : (one two : List ℕ) → Within sameRunNumbers (sameRun one two)
+unfolding sameRun
+same-run-within one two =
+    then-line (stringCheck one) _ (string-within one) λ a.
+    then-line (stringCheck two) _ (string-within two) λ b.
+    line-unless 23 (eqb (codeOf (a .cipher)) (codeOf (b .cipher))) _
+    (after (after (after (after (after (after (after (after (after (after (after (after (after (after (after (after first)))))))))))))))) by-none
 
 pub demand1 : Demand1
-unfolding setUpCall setUp setUpCheck cipherCall cipher cipherCheck encipherVolumeCall encipherVolume moveCall move moveCheck endOf writeCall write checkpointLengthCall checkpointLength recoverCall recover recoverCheck loadCall load loadCheck spentCall spent writeVolumeCall writeVolume readVolumeCall readVolume volumeDutyCall volumeDuty loadRatesCall compareRecordingsCall compareRecordings
+unfolding setUpCall setUp setUpCheck cipherCall cipher cipherCheck encipherVolumeCall encipherVolume moveCall move moveCheck endOf writeCall write checkpointLengthCall checkpointLength recoverCall recover recoverCheck loadCall load loadCheck spentCall spent writeVolumeCall writeVolume readVolumeCall readVolume volumeDutyCall volumeDuty loadRatesCall compareRecordingsCall compareRecordings sameRunCall
 demand1 = record {
   of-set-up = λ h code key iv area.
       answers _ (setUp code key iv area)
@@ -76,17 +97,10 @@ demand1 = record {
   of-load = λ h string area.
       answers _ (load string area)
       (then-line (loadCheck string (length area)) _
-      (line-without 9 (firstByte string) _ first λ code.
-      line-without 1 (byCode code) _ (after first) λ c.
+      (then-line (cipherIn string) _ (cipher-within string first (after first)) λ c.
       line-unless 4 (eqb (length area) (areaLength c)) _ (after (after first))
-      (then-line (positionRead (readNumber mostGroups (drop 1 string))) _
-      (position-within (readNumber mostGroups (drop 1 string)) first (after (after (after first)))) λ place.
-      let five = after (after (after (after (after (after first))))) in
-      line-unless 5 (leb (place .position) limit) _ five
-      (line-unless 11 (eqb (length (place .rest)) (4 * areaLength c)) _ (after (after (after (after (after (after (after first)))))))
-      (then-line (foundOr12 (undoAt c (words (place .rest)) (place .position))) _
-      (found-within (undoAt c (words (place .rest)) (place .position)) (after (after (after (after (after (after (after (after first)))))))))
-      (λ pair. by-none)))))
+      (contents-within c string first (after (after (after first))) (after (after (after (after (after (after first))))))
+      (after (after (after (after (after (after (after first))))))) (after (after (after (after (after (after (after (after first))))))))))
       (λ l. by-none));
   of-spent = λ h.
       answers _ (spent h)
@@ -110,4 +124,5 @@ demand1 = record {
       answers _ (compareRecordings blender gauge)
       (then-line (entriesIn blender) _ (volume-within first (after first) (after (after first)) blender) λ blenders.
       then-line (entriesIn gauge) _ (volume-within first (after first) (after (after first)) gauge) λ gauges. by-none);
+  of-same-run = λ one two. answers false (sameRun one two) (same-run-within one two);
 }

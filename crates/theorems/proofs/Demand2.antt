@@ -11,7 +11,7 @@ use Rattle.word.specs.Word.{_⊕_}
 use Rattle.word.specs.Bytes.{AllWords}
 use Rattle.cipher.specs.declared.Cipher.{Cipher}
 use Rattle.cipher.specs.Numbers.{codeOf, areaLength, keyLength, ivLength}
-use Rattle.cipher.proofs.Codes.{code-of}
+use Rattle.cipher.proofs.Codes.{code-of, same-code}
 use Rattle.laws.proofs.Iterate.{forward-none}
 use Rattle.keys.specs.Key.{Pair}
 use Rattle.tables.specs.Area.{Area}
@@ -35,7 +35,7 @@ use Rattle.theorems.specs.Demand2.{Demand2}
 use Rattle.laws.proofs.Results.{no-refusal, accepted-one, after-line, after-unless}
 use Rattle.theorems.proofs.Tables.{moved-area, moved-undone, undo-finds, four-true, four-moved}
 use Rattle.theorems.proofs.Twice.{ciphered-twice}
-use Rattle.theorems.proofs.Conditions.{same-code, word-shows, word-accepted, cipher-shows, move-shows, move-accepted, recover-finds}
+use Rattle.theorems.proofs.Conditions.{word-shows, word-accepted, cipher-shows, move-shows, move-accepted, recover-finds}
 use Rattle.theorems.proofs.Agree.{headOf, agree, agree-four}
 use Rattle.theorems.proofs.HeadMark.{cipher-mark, four-spent}
 
@@ -47,7 +47,7 @@ unfolding cipher cipherCheck
 four-cipherable f mark area bytes h t l =
     rw (four-true f area _ h t refl, le-leb (f .position + length bytes) limit l) (_, refl)
 
-four-movable : (f : Four) (mark : ℕ) (d : ℤ) (end : ℕ) → IsFour f → pos (f .position) +ℤ d ≡ pos end → end ≤ limit
+pub four-movable : (f : Four) (mark : ℕ) (d : ℤ) (end : ℕ) → IsFour f → pos (f .position) +ℤ d ≡ pos end → end ≤ limit
     → move (headOf (holds f) mark) (tablesOf f) d ≡ accepted (engineOfFour (atPosition f end) mark)
 unfolding move
 four-movable f mark d end h e l =

@@ -9,7 +9,7 @@ use lib.IntN.{pos, +ℤ-idl}
 use lib.ListN.{length, drop}
 use Rattle.word.specs.Bytes.{AllBytes}
 use Rattle.cipher.specs.Numbers.{byCode, codeOf, areaLength}
-use Rattle.cipher.proofs.Codes.{code-of}
+use Rattle.cipher.proofs.Codes.{code-of, same-code}
 use Rattle.laws.specs.Result.{Result, refused, accepted}
 use Rattle.volume.specs.declared.Entry.{Entry}
 use Rattle.volume.specs.Calls.{entriesIn}
@@ -25,7 +25,7 @@ use Rattle.theorems.specs.Farthest.{farthestAfter}
 use Rattle.theorems.specs.Demand3.{writeAfter, given, Names, Demand3}
 use Rattle.laws.proofs.Results.{no-refusal, accepted-one, after-line}
 use Rattle.theorems.proofs.Tables.{four-ready, four-true}
-use Rattle.theorems.proofs.Conditions.{same-code, no-code-0, move-accepted}
+use Rattle.theorems.proofs.Conditions.{no-code-0, move-accepted}
 use Rattle.theorems.proofs.Checkpoints.{fourOf, loadedOf, load-checkpoint, load-shows, load-is, checkpoint-of-one}
 use Rattle.theorems.proofs.Names.{name-of-one}
 use Rattle.theorems.proofs.Writes.{WriteShows, write-shows, write-iff}
@@ -39,14 +39,14 @@ use Rattle.theorems.proofs.Agree.{headOf, TablesAre, agree, agree-four}
 -- ── what is written ──
 
 -- from the head of a four, whatever its mark
-four-write-shows : (f : Four) (mark : ℕ) (area lent : List ℕ) (w : Written) → write (headOf (holds f) mark) area lent ≡ accepted w
+pub four-write-shows : (f : Four) (mark : ℕ) (area lent : List ℕ) (w : Written) → write (headOf (holds f) mark) area lent ≡ accepted w
     → WriteShows (headOf (holds f) mark) area lent w (f .cipher)
 four-write-shows f mark area lent w e =
     let (c, s) = write-shows (headOf (holds f) mark) area lent w e in
     subst (WriteShows (headOf (holds f) mark) area lent w) (sym (same-code (f .cipher) c (s .is-ready .code-is))) s
 
 -- the account is a four whose checkpoint the write has given
-abbrev GivesCheckpoint : Account → Written → Type 0
+abbrev pub GivesCheckpoint : Account → Written → Type 0
 GivesCheckpoint a w = (f : Four) × (a ≡ holds f) × Checkpoint (given w) f
 
 -- a write from an account's head and tables
@@ -60,7 +60,7 @@ write-gives start (holds f) mark area lent w t e =
     let s = four-write-shows f mark area lent w e in
     (f, refl, record { is-four = t .0; string-is = s .string ∙ ap (layout (f .cipher) (f .position)) (t .1) })
 
-written :
+pub written :
     (calls : List Call) → AllGiven calls → (area lent : List ℕ) (w : Written)
     → writeAfter calls area lent ≡ accepted w → GivesCheckpoint (accountAfter calls area) w
 written calls g area lent w e =
@@ -161,7 +161,7 @@ compared calls calls′ g g′ area area′ lent lent′ w w′ e e′ =
 -- ── what is loaded ──
 
 -- the answer of an accepted load
-abbrev openedOf : Contents → Loaded
+abbrev pub openedOf : Contents → Loaded
 openedOf l = record {
   engine = engineAt (codeOf (l .cipher)) (l .cipher) (l .position) (l .position) (l .area);
   key = eightWords (l .key);
@@ -169,17 +169,17 @@ openedOf l = record {
 }
 
 module _ {C : Type 0} where
-  after-load : (string area : List ℕ) (o : Loaded) → load string area ≡ accepted o
+  pub after-load : (string area : List ℕ) (o : Loaded) → load string area ≡ accepted o
       → ((l : Contents) → loadCheck string (length area) ≡ accepted l → openedOf l ≡ o → C) → C
   unfolding load
   after-load string area o e k = after-line (loadCheck string (length area)) _ e (λ _. no-refusal) λ l e₁ r₁. k l e₁ (accepted-one refl r₁)
 
-load-accepted : (string area : List ℕ) (f : Four) → Checkpoint string f → length area ≡ areaLength (f .cipher)
+pub load-accepted : (string area : List ℕ) (f : Four) → Checkpoint string f → length area ≡ areaLength (f .cipher)
     → load string area ≡ accepted (openedOf (loadedOf f))
 unfolding load
 load-accepted string area f h z = rw (load-checkpoint string (length area) f h z)
 
-loaded :
+pub loaded :
     (string area : List ℕ) → AllBytes string
     → ((o : Loaded) × (load string area ≡ accepted o)) ↔ ((f : Four) × Checkpoint string f × (length area ≡ areaLength (f .cipher)))
 loaded string area all = (
@@ -190,7 +190,7 @@ loaded string area all = (
   (λ t. (_, load-accepted string area (t .0) (t .1) (t .2))),
 )
 
-named : (string area : List ℕ) (o : Loaded) (f : Four) → load string area ≡ accepted o → Checkpoint string f → Names o f
+pub named : (string area : List ℕ) (o : Loaded) (f : Four) → load string area ≡ accepted o → Checkpoint string f → Names o f
 named string area o f e h =
     after-load string area o e λ l e₁ r₁.
     subst (λ (x : Loaded). Names x f) (sym (ap openedOf (load-is string (length area) l f e₁ h)) ∙ r₁)

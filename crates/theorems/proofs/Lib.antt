@@ -27,3 +27,4 @@ pub mod CheckpointLength
 pub mod Refusal12
 pub mod Demand2
 pub mod BlenderAgainstGauge
+pub mod SameRun

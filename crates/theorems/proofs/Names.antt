@@ -9,10 +9,10 @@ use Rattle.word.proofs.Bytes.{bytes-words, length-words}
 use Rattle.cipher.specs.declared.Cipher.{Cipher}
 use Rattle.cipher.specs.declared.Cipher.the-variants.{Hc128, Hc256}
 use Rattle.cipher.specs.Numbers.{keyLength, ivLength}
+use Rattle.cipher.proofs.Codes.{same-code}
 use Rattle.engine.specs.Calls.{Loaded, eightWords}
 use Rattle.theorems.specs.Account.{Four, IsFour}
 use Rattle.theorems.specs.Demand3.{Names}
-use Rattle.theorems.proofs.Conditions.{same-code}
 
 eight-words-one : (n : ℕ) (k m : List ℕ) → AllBytes k → AllBytes m → length k ≡ 4 * n → length m ≡ 4 * n
     → eightWords k ≡ eightWords m → k ≡ m
@@ -26,17 +26,20 @@ whole-words : (c : Cipher) → (n : ℕ) × (keyLength c ≡ 4 * n) × (ivLength
 whole-words Hc128 = (4, refl, refl)
 whole-words Hc256 = (8, refl, refl)
 
+-- the words of a key and an IV determine both, for fours of one cipher
+pub key-and-iv-one : (f g : Four) → IsFour f → IsFour g → f .cipher ≡ g .cipher → eightWords (f .key) ≡ eightWords (g .key)
+    → eightWords (f .iv) ≡ eightWords (g .iv) → (f .key ≡ g .key) × (f .iv ≡ g .iv)
+key-and-iv-one f g hf hg c k v =
+    let (n, kn, vn) = whole-words (g .cipher) in
+    let a = hf .pair in
+    let b = hg .pair in (
+      eight-words-one n (f .key) (g .key) (a .key-bytes) (b .key-bytes) (a .key-long ∙ ap keyLength c ∙ kn) (b .key-long ∙ kn) k,
+      eight-words-one n (f .iv) (g .iv) (a .iv-bytes) (b .iv-bytes) (a .iv-long ∙ ap ivLength c ∙ vn) (b .iv-long ∙ vn) v,
+    )
+
 pub name-of-one : (o : Loaded) (f g : Four) → IsFour f → IsFour g → Names o f → Names o g → f ≡ g
 name-of-one o f g hf hg nf ng =
     let c : f .cipher ≡ g .cipher = same-code (f .cipher) (g .cipher) (sym (nf .code) ∙ ng .code) in
-    let (n, kn, vn) = whole-words (g .cipher) in
-    let a = hf .pair in
-    let b = hg .pair in
-    let k =
-    eight-words-one n (f .key) (g .key) (a .key-bytes) (b .key-bytes) (a .key-long ∙ ap keyLength c ∙ kn) (b .key-long ∙ kn)
-    (sym (nf .key) ∙ ng .key) in
-    let v =
-    eight-words-one n (f .iv) (g .iv) (a .iv-bytes) (b .iv-bytes) (a .iv-long ∙ ap ivLength c ∙ vn) (b .iv-long ∙ vn)
-    (sym (nf .iv) ∙ ng .iv) in
+    let (k, v) = key-and-iv-one f g hf hg c (sym (nf .key) ∙ ng .key) (sym (nf .iv) ∙ ng .iv) in
     let p = sym (nf .position) ∙ ng .position in
     λ i. record { cipher = c i; key = k i; iv = v i; position = p i }

@@ -4,12 +4,14 @@ use mathlib.Core.Bool.{Bool, true, false, cond}
 use mathlib.Core.Option.{Option, none, some}
 use mathlib.Core.List.{List, [], _∷_, List·Memᴰ, List·Memᴰ·head, List·Memᴰ·tail}
 use mathlib.Core.Logic.{inl, inr}
-use Prim.Native.Nat.{ℕ, zero, suc}
+use Prim.Native.Nat.{ℕ, zero, suc, _*_}
 use native.Mathlib.Omega.{arith}
 use borrow.Author.Tests.{eq-eqb}
 use lib.Dec.{eqb, leb, ltb}
 use lib.IntN.{ℤ, pos, negsuc}
-use lib.ListN.{length}
+use lib.ListN.{length, drop}
+use Rattle.word.specs.Bytes.{words}
+use Rattle.cipher.specs.declared.Cipher.{Cipher}
 use Rattle.cipher.specs.Numbers.{byCode, areaLength}
 use Rattle.steps.specs.Steps.{wordAt}
 use Rattle.setup.specs.SetUp as SetUp
@@ -20,7 +22,8 @@ use Rattle.volume.specs.Calls.{numberRead, readValue, readEntry, readEntries, i
 use Rattle.rates.specs.Calls.{pairCountRange, rateRange, refusedAs24, readPair, readPairs, pairsIn, loadRates}
 use Rattle.laws.specs.Result.{Result, refused, accepted, outcome, _>>=_, _>>_, refuse_unless_, refuse_without_}
 use Rattle.conditions.specs.Limit.{limit}
-use Rattle.conditions.specs.Conditions.{ready, readyWithWord, headCheck, within, foundOr12, positionRead}
+use Rattle.checkpoint.specs.Checkpoint.{mostGroups as checkpointGroups}
+use Rattle.conditions.specs.Conditions.{ready, readyWithWord, headCheck, within, undoAt, foundOr12, positionRead, firstByte, cipherIn, contentsIn}
 use Rattle.theorems.specs.Demand1.{AcceptedOrRefused}
 use Rattle.laws.proofs.Results.{no-refusal}
 
@@ -52,6 +55,10 @@ module _ {numbers : List ℕ} where
       → Within numbers ((refuse n without o) >>= f)
   line-without n none f h k = by-one h
   line-without n (some a) f h k = k a
+
+  only-without : {A : Type 0} (n : ℕ) (o : Option A) → List·Memᴰ n numbers → Within numbers (refuse n without o)
+  only-without n none h = by-one h
+  only-without n (some a) h = by-none
 
   pub first-line : {A B : Type 0} (r : Result A) (q : Result B) → Within numbers r → Within numbers q → Within numbers (r >> q)
   first-line (refused n) q (by-one h) k = by-one h
@@ -92,6 +99,23 @@ module _ {numbers : List ℕ} where
   position-within (is value rest) a b = by-none
   position-within ended a b = by-one a
   position-within malformed a b = by-one b
+
+  -- ── conditions of a checkpoint's string ──
+
+  pub cipher-within : (string : List ℕ) → List·Memᴰ 9 numbers → List·Memᴰ 1 numbers → Within numbers (cipherIn string)
+  unfolding cipherIn
+  cipher-within string a b = line-without 9 (firstByte string) _ a λ code. only-without 1 (byCode code) b
+
+  pub contents-within : (c : Cipher) (string : List ℕ) → List·Memᴰ 9 numbers → List·Memᴰ 10 numbers → List·Memᴰ 5 numbers → List·Memᴰ 11 numbers
+      → List·Memᴰ 12 numbers → Within numbers (contentsIn c string)
+  unfolding contentsIn
+  contents-within c string nine ten five eleven twelve =
+      let read = readNumber checkpointGroups (drop 1 string) in
+      then-line (positionRead read) _ (position-within read nine ten) λ place.
+      line-unless 5 (leb (place .position) limit) _ five
+      (line-unless 11 (eqb (length (place .rest)) (4 * areaLength c)) _ eleven
+      (then-line (foundOr12 (undoAt c (words (place .rest)) (place .position))) _
+      (found-within (undoAt c (words (place .rest)) (place .position)) twelve) λ pair. by-none))
 
   -- ── conditions of a volume ──
 

@@ -2,6 +2,7 @@
 -- head, tables, the table of rates in use and every lent byte as they were. Volume soundness has no refusals, and its answer is no refusal number. Of
 -- two recordings one call answers the number, and another hands back the part.
 use mathlib.Core.Path.{_≡_}
+use mathlib.Core.Bool.{false}
 use mathlib.Core.List.{List, [], _∷_, List·Memᴰ}
 use mathlib.Core.Logic.{_⊎_}
 use Prim.Native.Nat.{ℕ}
@@ -14,6 +15,7 @@ use Rattle.soundness.specs.declared.Soundness.{Soundness}
 use Rattle.soundness.specs.Soundness.{Fits}
 use Rattle.comparison.specs.declared.Part.the-variants as part
 use Rattle.comparison.specs.Comparison.{compareRecordings, compareRecordingsCall}
+use Rattle.same_run.specs.SameRun.{sameRun, sameRunCall}
 use Rattle.laws.specs.Result.{Result, refused, accepted, Outcome}
 use Rattle.word.specs.Bytes.{AllBytes}
 use Rattle.engine.specs.declared.Head.{Head}
@@ -28,7 +30,7 @@ module _ {A : Type 0} where
     pub outcome-is : o ≡ record { refusal = 0; value = new }
 
   -- the call is refused: its refusal is one of these numbers, and what it leaves is `old`: head, area, table of rates in use and lent bytes as they
-  -- were, and 0 for what the call returns, or the empty beginning of the blender's buffer
+  -- were, and 0 for what the call returns, or the empty beginning of the blender's buffer, or no
   pub record Refused (numbers : List ℕ) (old : A) (result : Result A) (o : Outcome A) : Type 0 where
     pub number : ℕ
     pub one-of : List·Memᴰ number numbers
@@ -87,3 +89,8 @@ pub record Demand1 : Type 0 where
       (blender gauge : List ℕ)
       → AcceptedOrRefused (16 ∷ 14 ∷ 15 ∷ 16 ∷ 16 ∷ 14 ∷ 15 ∷ 16 ∷ []) (part.Blender 0 0)
       (compareRecordings blender gauge) (compareRecordingsCall blender gauge)
+  -- Of two checkpoints: load's refusals of the first but for 4, then those of the second, then 23; beside a refusal the answer is no.
+  pub of-same-run :
+      (one two : List ℕ)
+      → AcceptedOrRefused (9 ∷ 1 ∷ 10 ∷ 9 ∷ 10 ∷ 5 ∷ 11 ∷ 12 ∷ 9 ∷ 1 ∷ 10 ∷ 9 ∷ 10 ∷ 5 ∷ 11 ∷ 12 ∷ 23 ∷ []) false
+      (sameRun one two) (sameRunCall one two)

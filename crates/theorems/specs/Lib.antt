@@ -18,3 +18,4 @@ pub mod ReadingEffect
 pub mod RefineryRates
 pub mod WhereHopeless
 pub mod BlenderAgainstGauge
+pub mod SameRun

@@ -14,11 +14,11 @@ use Rattle.engine.proofs.Head.load.Statement.{statement}
 use Rattle.engine.proofs.Head.load.Tie as tie
 
 returns : tie.Need-returns
-returns c = rw (c .not-loaded .ensures) (load-refused _ _ _ _ (c .before .before .load-check .ensures .refused-is (c .before .if1 .taken)))
+returns c = rw (c .not-loaded .ensures) (load-refused _ _ _ _ (c .before .before .load-check .ensures .is .refused-is (c .before .if1 .taken)))
 
 of-string-requires : tie.Need-of-string-requires
 of-string-requires c κs =
-    let beginning = c .before .load-check .ensures in
+    let beginning = c .before .load-check .ensures .is in
     let l = beginning .within (c .if1 .left) in
     (beginning .string-is (c .if1 .left), omega arith)
 
@@ -26,7 +26,7 @@ returns-2 : tie.Need-returns-2
 returns-2 c =
     let begun = c .before .before .before in
     rw (c .not-loaded2 .ensures)
-    (load-none _ _ _ _ _ _ (begun .before .load-check .ensures .passed-is (begun .if1 .left))
+    (load-none _ _ _ _ _ _ (begun .before .load-check .ensures .is .passed-is (begun .if1 .left))
     (sym (c .before .before .of-string .ensures .filled-is) ∙ not-true _ (c .before .if2 .taken)))
 
 read-words-requires : tie.Need-read-words-requires
@@ -34,7 +34,7 @@ read-words-requires c κs =
     let begun = c .before .before .before .before in
     let beginning = begun .before .load-check .ensures in
     let a = beginning .area-is (begun .if1 .left) in
-    let s = beginning .string-is (begun .if1 .left) in
+    let s = beginning .is .string-is (begun .if1 .left) in
     let z = sizes (begun .before .load-check .result .cipher) in
     (omega arith, omega arith)
 
@@ -50,7 +50,7 @@ word-at-requires c κs =
     let filled = c .before .before .before .before .before .before .before .before in
     let begun = filled .before .before .before .before .before in
     let beginning = begun .before .load-check .ensures in
-    let l = beginning .within (begun .if1 .left) in
+    let l = beginning .is .within (begun .if1 .left) in
     (filled .read-words .kept .1 .1 .0 ∙ beginning .area-is (begun .if1 .left), omega arith)
 
 returns-3 : tie.Need-returns-3
@@ -63,7 +63,7 @@ returns-3 c =
     let beginning = begun .before .load-check in
     let found = filled .before .of-string in
     let w = found .result .words in
-    load-done _ _ _ _ _ _ (beginning .ensures .passed-is (begun .if1 .left)) _ _ _ _ _
+    load-done _ _ _ _ _ _ (beginning .ensures .is .passed-is (begun .if1 .left)) _ _ _ _ _
     (sym (found .ensures .filled-is) ∙ not-false _ (filled .if2 .left))
     (c .at .ensures ∙ ap (λ (x : ℕ). headAt x (beginning .result .position) (c .before .word-at .result) (beginning .result .position)) (coded .code-of .ensures))
     (keyed .before .before .before .read-words .ensures) (c .before .word-at .ensures)
