@@ -27,7 +27,7 @@ static void *create(int code)
     return s;
 }
 
-/* The benchmark gives no call that the archive would refuse, but for a cut recording in check.c. */
+/* The benchmark gives no call that the archive would refuse, but for a cut recording and pairs of checkpoints in check.c. */
 static void expect_accepted(uint64_t refusal)
 {
     if (refusal != HC_OK)
@@ -80,6 +80,19 @@ static int load(void *state, const uint8_t *checkpoint, size_t length, size_t ti
     }
     return 0;
 }
+
+/* An earlier archive may not tell whether two checkpoints belong to one run. */
+#ifdef HAS_SAME_RUN
+static int64_t same_run(const uint8_t *first, size_t first_bytes, const uint8_t *second, size_t second_bytes, size_t times)
+{
+    struct hc_yes_or_no same = { 0, 0 };
+    for (size_t i = 0; i < times; i++)
+        same = hc_same_run(first, first_bytes, second, second_bytes);
+    return same.refusal == HC_OK ? (int64_t)same.yes : -(int64_t)same.refusal;
+}
+#else
+#define same_run NULL
+#endif
 
 /* An earlier archive may have no volumes. */
 #ifdef HC_VOLUME_ENTRIES
@@ -148,5 +161,5 @@ static int64_t compare(const uint8_t *blender, size_t blender_bytes, const uint8
 #define compare NULL
 #endif
 
-const struct implementation COLUMN = { TITLE, create, set_up, cipher, 1, move, recover, write_checkpoint, load, write_volume, read_volume, duty,
-                                       soundness, compare };
+const struct implementation COLUMN = { TITLE, create, set_up, cipher, 1, move, recover, write_checkpoint, load, same_run, write_volume, read_volume,
+                                       duty, soundness, compare };

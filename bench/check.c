@@ -81,6 +81,90 @@ static void check_checkpoint(const struct implementation *const *all, size_t cou
     }
 }
 
+struct checkpoint {
+    size_t length;
+    uint8_t bytes[LONGEST_CHECKPOINT];
+};
+
+static void make_checkpoint(const struct implementation *it, int code, int64_t p, struct checkpoint *made)
+{
+    void *state = it->create(code);
+    it->set_up(state, key, iv, 1);
+    it->move(state, p);
+    made->length = it->write(state, made->bytes, 1);
+}
+
+static void check_pair(const struct implementation *it, int code, const struct checkpoint *first, const struct checkpoint *second, int64_t answer)
+{
+    if (it->same_run(first->bytes, first->length, second->bytes, second->length, 1) != answer)
+        stop(it, code, "what it tells of two checkpoints");
+}
+
+static void check_both_ways(const struct implementation *it, int code, const struct checkpoint *one, const struct checkpoint *other, int64_t answer)
+{
+    check_pair(it, code, one, other, answer);
+    check_pair(it, code, other, one, answer);
+}
+
+/* Each refusal of one string, as the first and as the second. Faults that are refused later are left in it. */
+static void check_refused(const struct implementation *it, int code, const struct checkpoint *sound)
+{
+    struct checkpoint bad = *sound;
+    bad.bytes[bad.length - 1] ^= 1;
+    check_both_ways(it, code, &bad, sound, -12);
+    bad.length--;
+    check_both_ways(it, code, &bad, sound, -11);
+    memset(bad.bytes + 1, 0xFF, 3);
+    bad.bytes[4] = 0x7F; /* the greatest number of four groups */
+    check_both_ways(it, code, &bad, sound, -5);
+    bad.bytes[4] = 0;
+    check_both_ways(it, code, &bad, sound, -10);
+    bad.length = 4;
+    check_both_ways(it, code, &bad, sound, -9);
+    bad.length = 5;
+    bad.bytes[4] = 0x80; /* a fourth group that announces another, where the string ends */
+    check_both_ways(it, code, &bad, sound, -10);
+    bad.bytes[0] = 3;
+    check_both_ways(it, code, &bad, sound, -1);
+    bad.length = 0;
+    check_both_ways(it, code, &bad, sound, -9);
+}
+
+/* Checkpoints of one run at three positions, of another IV, of another key, and of the other cipher; and each refusal, that of the first string
+ * before that of the second, and 23 last. */
+static void check_same_run(const struct implementation *const *all, size_t count, int code)
+{
+    static const int64_t positions[3] = { 0, 1001, 100000 };
+    static struct checkpoint same[3], other_iv, other_key, other_cipher, damaged;
+    for (size_t p = 0; p < 3; p++)
+        make_checkpoint(all[0], code, positions[p], &same[p]);
+    iv[15]++;
+    make_checkpoint(all[0], code, positions[1], &other_iv);
+    iv[15]--;
+    key[0]++;
+    make_checkpoint(all[0], code, positions[1], &other_key);
+    key[0]--;
+    make_checkpoint(all[0], 3 - code, positions[1], &other_cipher);
+    damaged = other_cipher;
+    damaged.bytes[damaged.length - 1] ^= 1;
+    for (size_t k = 0; k < count; k++) {
+        if (all[k]->same_run == NULL)
+            continue;
+        for (size_t p = 0; p < 3; p++) {
+            for (size_t q = 0; q < 3; q++)
+                check_pair(all[k], code, &same[p], &same[q], 1);
+            check_both_ways(all[k], code, &same[p], &other_iv, 0);
+            check_both_ways(all[k], code, &same[p], &other_key, 0);
+            check_both_ways(all[k], code, &same[p], &other_cipher, -23);
+            check_both_ways(all[k], code, &same[p], &damaged, -12);
+            check_refused(all[k], code, &same[p]);
+        }
+        struct checkpoint empty = { 0, { 0 } };
+        check_pair(all[k], code, &damaged, &empty, -12);
+        check_pair(all[k], code, &empty, &damaged, -9);
+    }
+}
+
 /* A volume against itself, and against one whose third entry, at byte 10, has a ratio that is smaller by 1, both ways and cut. */
 static void check_comparison(const struct implementation *it, const uint8_t *volume, size_t length, uint32_t *list, size_t numbers)
 {
@@ -131,6 +215,7 @@ void check_all_agree(const struct implementation *const *all, size_t count)
     for (int code = 1; code <= 2; code++) {
         check_keystream(all, count, code);
         check_checkpoint(all, count, code);
+        check_same_run(all, count, code);
     }
     check_volume(all, count);
 }

@@ -27,6 +27,9 @@ struct implementation {
     size_t (*write)(void *state, uint8_t *checkpoint, size_t times);
     /* Loads the checkpoint, so many times in a row; returns 0, or another number where it is refused. */
     int (*load)(void *state, const uint8_t *checkpoint, size_t length, size_t times);
+    /* Tells whether two checkpoints belong to one run, so many times in a row, and returns 1 for yes and 0 for no; minus the number of the refusal
+     * where the pair is refused. */
+    int64_t (*same_run)(const uint8_t *first, size_t first_bytes, const uint8_t *second, size_t second_bytes, size_t times);
     /* Writes the volume of entries, four numbers each, so many times in a row, and returns its length; 0 where it is refused. */
     size_t (*write_volume)(const uint32_t *entries, size_t numbers, uint8_t *lent, size_t lent_bytes, size_t times);
     /* Reads a volume, so many times in a row, and returns the count of its entries; -1 where it is refused. */

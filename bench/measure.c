@@ -8,6 +8,7 @@
 #include <time.h>
 
 #define SMALL_POSITION 1001
+#define NEXT_WORD_POSITION 1005 /* The tables have taken one step more there. */
 
 const struct row_about about[ROWS] = {
     [BULK_64_KIB] = { "bulk, 64 KiB buffer", MIB_PER_SECOND, 20 },
@@ -24,6 +25,8 @@ const struct row_about about[ROWS] = {
     [LOAD_LIMIT] = { "load at the limit", MILLISECONDS, 1 },
     [BACK] = { "move back, the limit to 0", MILLISECONDS, 2 },
     [LOAD_SMALL] = { "load at position 1,001", MICROSECONDS, 20 },
+    [SAME_RUN_SMALL] = { "same run at 1,001 and 1,005", MICROSECONDS, 20 },
+    [SAME_RUN_LIMIT] = { "same run at the limit", MILLISECONDS, 1 },
     [WRITE_VOLUME] = { "write volume, 2,000 entries", MICROSECONDS, 20 },
     [READ_VOLUME] = { "read volume, 2,000 entries", MICROSECONDS, 20 },
     [DUTY] = { "duty on 2,000 entries", MICROSECONDS, 20 },
@@ -43,7 +46,7 @@ struct engine {
 static struct engine engines[2][MOST_COLUMNS];
 static uint8_t key[32] = { 1, 2, 3 }, iv[32] = { 4, 5, 6 };
 static uint8_t buffer[16777216];
-static uint8_t checkpoint[LONGEST_CHECKPOINT];
+static uint8_t checkpoint[LONGEST_CHECKPOINT], second_checkpoint[LONGEST_CHECKPOINT];
 static uint32_t entries[4 * VOLUME_ENTRIES], entries_read[4 * VOLUME_ENTRIES];
 static uint8_t volume[LONGEST_VOLUME], gauge[LONGEST_VOLUME];
 
@@ -90,6 +93,8 @@ static int has(const struct implementation *it, enum row row)
     case WRITE: return it->write != NULL;
     case LOAD_LIMIT:
     case LOAD_SMALL: return it->load != NULL;
+    case SAME_RUN_SMALL:
+    case SAME_RUN_LIMIT: return it->same_run != NULL;
     case WRITE_VOLUME: return it->write_volume != NULL;
     case READ_VOLUME: return it->read_volume != NULL;
     case DUTY: return it->duty != NULL;
@@ -170,6 +175,19 @@ static double time_load(struct engine *e, int64_t p, size_t times)
     return (now() - start) / (double)times;
 }
 
+/* Both checkpoints are of one key and IV, so that all sixteen words are compared. */
+static double time_same_run(struct engine *e, int64_t p, int64_t q, size_t times)
+{
+    bring_to(e, p);
+    size_t first_bytes = e->it->write(e->state, checkpoint, 1);
+    bring_to(e, q);
+    size_t second_bytes = e->it->write(e->state, second_checkpoint, 1);
+    double start = now();
+    if (e->it->same_run(checkpoint, first_bytes, second_checkpoint, second_bytes, times) != 1)
+        abort();
+    return (now() - start) / (double)times;
+}
+
 /* The entries have random numbers over their whole ranges, the same in every run. */
 static void fill_entries(void)
 {
@@ -240,6 +258,8 @@ static double time_row(struct engine *e, enum row row)
     case LOAD_LIMIT: return time_load(e, LIMIT, 1);
     case BACK: return time_move(e, LIMIT, 0);
     case LOAD_SMALL: return time_load(e, SMALL_POSITION, 16);
+    case SAME_RUN_SMALL: return time_same_run(e, SMALL_POSITION, NEXT_WORD_POSITION, 16);
+    case SAME_RUN_LIMIT: return time_same_run(e, LIMIT, LIMIT, 1);
     case WRITE_VOLUME: return time_write_volume(e->it);
     case READ_VOLUME: return time_read_volume(e->it);
     case DUTY: return time_duty(e->it);

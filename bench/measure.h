@@ -19,6 +19,8 @@ enum row {
     WRITE,
     LOAD_SMALL,
     LOAD_LIMIT,
+    SAME_RUN_SMALL,
+    SAME_RUN_LIMIT,
     WRITE_VOLUME,
     READ_VOLUME,
     DUTY,

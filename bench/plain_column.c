@@ -59,6 +59,14 @@ static int load(void *state, const uint8_t *checkpoint, size_t length, size_t ti
     return 0;
 }
 
+static int64_t same_run(const uint8_t *first, size_t first_bytes, const uint8_t *second, size_t second_bytes, size_t times)
+{
+    int64_t answer = 0;
+    for (size_t i = 0; i < times; i++)
+        answer = plain_same_run(first, first_bytes, second, second_bytes);
+    return answer;
+}
+
 static size_t write_volume(const uint32_t *entries, size_t numbers, uint8_t *lent, size_t lent_bytes, size_t times)
 {
     struct plain_answer written = { 0, 0 };
@@ -100,5 +108,5 @@ static int64_t compare(const uint8_t *blender, size_t blender_bytes, const uint8
     return from;
 }
 
-const struct implementation COLUMN = { TITLE, create, set_up, cipher, 1, move, recover, write_checkpoint, load, write_volume, read_volume, duty,
-                                       soundness, compare };
+const struct implementation COLUMN = { TITLE, create, set_up, cipher, 1, move, recover, write_checkpoint, load, same_run, write_volume, read_volume,
+                                       duty, soundness, compare };

@@ -34,23 +34,27 @@ static int undo_expansion(const uint32_t *area, size_t t, uint32_t *first)
     return 0;
 }
 
+int plain_undo(struct plain *s, uint32_t *first)
+{
+    plain_move(s, -(int64_t)s->position);
+    if (s->code == 2) {
+        undo_last_pass_256(s->area);
+        return undo_expansion(s->area, 1024, first);
+    }
+    undo_last_pass_128(s->area);
+    if (undo_expansion(s->area, 512, first) != 0 || memcmp(first, first + 4, 16) != 0 || memcmp(first + 8, first + 12, 16) != 0)
+        return -1;
+    return 0;
+}
+
 int plain_recover(const struct plain *s, uint8_t *key, uint8_t *iv)
 {
     struct plain copy = *s;
     uint32_t w[16];
-    plain_move(&copy, -(int64_t)copy.position);
-    if (s->code == 1) {
-        undo_last_pass_128(copy.area);
-        if (undo_expansion(copy.area, 512, w) != 0 || memcmp(w, w + 4, 16) != 0 || memcmp(w + 8, w + 12, 16) != 0)
-            return -1;
-        memcpy(key, w, 16);
-        memcpy(iv, w + 8, 16);
-        return 0;
-    }
-    undo_last_pass_256(copy.area);
-    if (undo_expansion(copy.area, 1024, w) != 0)
+    size_t key_bytes = s->code == 1 ? 16 : 32;
+    if (plain_undo(&copy, w) != 0)
         return -1;
-    memcpy(key, w, 32);
-    memcpy(iv, w + 8, 32);
+    memcpy(key, w, key_bytes);
+    memcpy(iv, w + 8, key_bytes);
     return 0;
 }

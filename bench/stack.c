@@ -17,10 +17,11 @@ struct call {
 };
 
 static struct call set_up = {"hc_set_up", 0}, cipher = {"hc_cipher", 0}, move = {"hc_move", 0}, checkpoint_length = {"hc_checkpoint_length", 0},
-                   writing = {"hc_write", 0}, recover = {"hc_recover", 0}, load = {"hc_load", 0}, spent = {"hc_spent", 0},
-                   write_volume = {"hc_write_volume", 0}, read_volume = {"hc_read_volume", 0}, encipher_volume = {"hc_encipher_volume", 0},
-                   our_rates = {"hc_our_rates", 0}, load_rates = {"hc_load_rates", 0}, duty = {"hc_volume_duty", 0},
-                   soundness = {"hc_volume_soundness", 0}, check_pair = {"hc_check_recordings", 0}, compare = {"hc_compare_recordings", 0};
+                   writing = {"hc_write", 0}, recover = {"hc_recover", 0}, load = {"hc_load", 0}, same_run = {"hc_same_run", 0},
+                   spent = {"hc_spent", 0}, write_volume = {"hc_write_volume", 0}, read_volume = {"hc_read_volume", 0},
+                   encipher_volume = {"hc_encipher_volume", 0}, our_rates = {"hc_our_rates", 0}, load_rates = {"hc_load_rates", 0},
+                   duty = {"hc_volume_duty", 0}, soundness = {"hc_volume_soundness", 0}, check_pair = {"hc_check_recordings", 0},
+                   compare = {"hc_compare_recordings", 0};
 
 /* Makes a call with up to eight arguments, the last two on the stack, and keeps the most that it took. */
 static void measure(struct call *call, void *function, const uintptr_t arguments[8])
@@ -77,6 +78,77 @@ static void of_cipher(uint32_t code, size_t key_bytes, size_t words)
         MEASURE(move, hc_move, AT(&head), AT(area), words, n);
         MEASURE(move, hc_move, AT(&head), AT(area), words, -(uintptr_t)n);
     }
+}
+
+struct checkpoint {
+    size_t length;
+    uint8_t bytes[HC_256_CHECKPOINT_BYTES];
+};
+
+/* The checkpoint at a position of the run whose key and IV are this byte throughout. */
+static void make_checkpoint(struct checkpoint *made, uint32_t code, int byte, uint64_t position)
+{
+    size_t key_bytes = code == HC_128 ? HC_128_KEY_BYTES : HC_256_KEY_BYTES, words = code == HC_128 ? HC_128_AREA_WORDS : HC_256_AREA_WORDS;
+    struct hc_head head = {0};
+    uint8_t both[HC_256_KEY_BYTES];
+    memset(both, byte, sizeof both);
+    hc_set_up(&head, code, both, key_bytes, both, key_bytes, area, words);
+    hc_move(&head, area, words, (int64_t)position);
+    made->length = hc_write(&head, area, words, made->bytes, sizeof made->bytes).length;
+}
+
+/* A pair of checkpoints whose answer is known. */
+static void of_pair(const struct checkpoint *first, const struct checkpoint *second, uint64_t refusal, uint64_t yes)
+{
+    MEASURE(same_run, hc_same_run, AT(first->bytes), first->length, AT(second->bytes), second->length);
+    struct hc_yes_or_no same = hc_same_run(first->bytes, first->length, second->bytes, second->length);
+    if (same.refusal != refusal || same.yes != yes) {
+        printf("two checkpoints were not answered with refusal %d and yes %d\n", (int)refusal, (int)yes);
+        exit(1);
+    }
+}
+
+/* A checkpoint that is refused, as the first and as the second, where the other one is sound. */
+static void of_refused(const struct checkpoint *bad, const struct checkpoint *sound, uint64_t refusal)
+{
+    of_pair(bad, sound, refusal, 0);
+    of_pair(sound, bad, refusal, 0);
+}
+
+/* Checkpoints with another one of the same run and of another run, with one of the other cipher, and with one that is refused, for each refusal. */
+static void of_same_runs(uint32_t code)
+{
+    static const uint64_t positions[] = {0, 1, 127, 128, 1001, 16384, 2097152, HC_LIMIT};
+    enum { COUNT = sizeof positions / sizeof *positions };
+    static struct checkpoint same[COUNT], others[COUNT], other_cipher, sound, bad;
+    make_checkpoint(&other_cipher, code == HC_128 ? HC_256 : HC_128, 1, 1001);
+    make_checkpoint(&sound, code, 1, 1001);
+    for (size_t i = 0; i < COUNT; i++) {
+        make_checkpoint(&same[i], code, 1, positions[i]);
+        make_checkpoint(&others[i], code, 2, positions[i]);
+    }
+    for (size_t i = 0; i < COUNT; i++) {
+        of_pair(&same[i], &same[i], HC_OK, 1);
+        of_pair(&same[i], &same[COUNT - 1 - i], HC_OK, 1);
+        of_pair(&same[i], &others[COUNT - 1 - i], HC_OK, 0);
+        of_refused(&same[i], &other_cipher, HC_TWO_CIPHERS);
+        bad = same[i];
+        bad.bytes[bad.length - 1] ^= 1;
+        of_refused(&bad, &sound, HC_NO_KEY);
+        bad.length--;
+        of_refused(&bad, &sound, HC_STRING_LENGTH);
+    }
+    memset(bad.bytes + 1, 0xFF, 3);
+    bad.bytes[4] = 0x7F; /* the greatest number of four groups, which is over the limit */
+    of_refused(&bad, &sound, HC_BAD_POSITION);
+    bad.bytes[4] = 0;
+    of_refused(&bad, &sound, HC_BAD_NUMBER);
+    bad.bytes[4] = 0x80; /* a fourth group that announces another */
+    of_refused(&bad, &sound, HC_BAD_NUMBER);
+    for (bad.length = 0; bad.length < 5; bad.length++)
+        of_refused(&bad, &sound, HC_ENDS_EARLY);
+    bad.bytes[0] = 3;
+    of_refused(&bad, &sound, HC_BAD_CODE);
 }
 
 /* A volume against itself, against beginnings of it, against one with another ratio, both ways, and against that one cut. */
@@ -165,11 +237,13 @@ static void of_rates(void)
 
 int main(void)
 {
-    const struct call *calls[] = {&set_up, &cipher, &move, &checkpoint_length, &writing, &recover, &load, &spent,
+    const struct call *calls[] = {&set_up, &cipher, &move, &checkpoint_length, &writing, &recover, &load, &same_run, &spent,
                                   &write_volume, &read_volume, &encipher_volume, &our_rates, &load_rates, &duty, &soundness,
                                   &check_pair, &compare};
     of_cipher(HC_128, HC_128_KEY_BYTES, HC_128_AREA_WORDS);
     of_cipher(HC_256, HC_256_KEY_BYTES, HC_256_AREA_WORDS);
+    of_same_runs(HC_128);
+    of_same_runs(HC_256);
     of_volumes(HC_128, HC_128_KEY_BYTES, HC_128_AREA_WORDS);
     of_volumes(HC_256, HC_256_KEY_BYTES, HC_256_AREA_WORDS);
     of_rates();

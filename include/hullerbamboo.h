@@ -242,7 +242,7 @@ struct hc_words hc_load(struct hc_head *head, uint32_t *area, size_t area_words,
  * and no byte more. No area and no head is needed. A run that was set up again with the same key and IV can't be told from the first. For each
  * checkpoint it takes every step back to set up, as hc_load does, so that the time grows with both positions.
  * Refusals: those of hc_load but for 4, which is about an area: 9, 1, then for the position 10 or 9, then 5, 11, 12, for first; then these for
- * second; then 23 where the two are of different ciphers. Stack: 8,736 bytes.
+ * second; then 23 where the two are of different ciphers. Stack: 8,640 bytes.
  *
  * Whether a spare board's checkpoint is of the run that this one belongs to:
  *

@@ -2,7 +2,7 @@
  * that a look back at an old entry leaves what is spent, that a refused call changes nothing, and that a head is refused with an area that was copied
  * too early. At the end a shift's entries are written as a volume, enciphered, deciphered and read, and their duty is worked out, under our rates and
  * under a refinery's own; strings that are no volumes are told apart: those that are only cut, and those that became hopeless; and the tank gauge's
- * recording of the same run is compared with the blender's. */
+ * recording of the same run is compared with the blender's. Last, checkpoints of the same run as the box's first one are told apart from others. */
 #include <inttypes.h>
 #include <stdio.h>
 #include <stdlib.h>
@@ -27,6 +27,7 @@ NO_PADDING(hc_head, SIZE(hc_head, code) + SIZE(hc_head, word) + SIZE(hc_head, po
 NO_PADDING(hc_length, SIZE(hc_length, refusal) + SIZE(hc_length, length));
 NO_PADDING(hc_words, SIZE(hc_words, refusal) + SIZE(hc_words, key) + SIZE(hc_words, iv));
 NO_PADDING(hc_count, SIZE(hc_count, refusal) + SIZE(hc_count, count));
+NO_PADDING(hc_yes_or_no, SIZE(hc_yes_or_no, refusal) + SIZE(hc_yes_or_no, yes));
 NO_PADDING(hc_duty, SIZE(hc_duty, refusal) + SIZE(hc_duty, cents));
 NO_PADDING(hc_rates, SIZE(hc_rates, cents));
 NO_PADDING(hc_soundness, SIZE(hc_soundness, answer) + SIZE(hc_soundness, length));
@@ -216,6 +217,65 @@ static void log_shift(void)
     compare_with_gauge(entries, volume, written.length);
 }
 
+/* Says whether two checkpoints belong to one run. Whatever the answer, every byte of both stays; where the pair is refused, yes is 0. */
+static void show_same_run(const char *what, const uint8_t *first, size_t first_bytes, const uint8_t *second, size_t second_bytes)
+{
+    static uint8_t first_before[HC_256_CHECKPOINT_BYTES], second_before[HC_256_CHECKPOINT_BYTES];
+    memcpy(first_before, first, first_bytes);
+    memcpy(second_before, second, second_bytes);
+    struct hc_yes_or_no same = hc_same_run(first, first_bytes, second, second_bytes), yes = {HC_OK, 1}, no = {same.refusal, 0};
+    check_same("the first checkpoint", first_before, first, first_bytes);
+    check_same("the second checkpoint", second_before, second, second_bytes);
+    check_same("yes or no", same.yes ? &yes : &no, &same, sizeof same);
+    if (same.refusal != HC_OK)
+        printf("%s: refused with %" PRIu64 ", and every byte stays\n", what, same.refusal);
+    else
+        printf("%s: %s\n", what, same.yes ? "yes" : "no");
+}
+
+/* Moves an engine to a position, and writes its checkpoint there. */
+static size_t write_at(struct engine *engine, uint64_t position, uint8_t lent[HC_128_CHECKPOINT_BYTES])
+{
+    check("move", hc_move(&engine->head, engine->area, WORDS, (int64_t)position - (int64_t)engine->head.position));
+    struct hc_length written = hc_write(&engine->head, engine->area, WORDS, lent, HC_128_CHECKPOINT_BYTES);
+    check("write", written.refusal);
+    return written.length;
+}
+
+/* Beside the checkpoint that the box wrote at position 7: others of the box, moved on and moved back; those of a spare board with another key, and
+ * with the box's key and another IV; one of the other cipher; one with a bit of its tables changed, as the second and as the first; and the empty
+ * string. */
+static void same_run_or_not(const uint8_t *at_7, size_t at_7_bytes, const uint8_t *key, const uint8_t *iv)
+{
+    const uint8_t other_key[] = "key of the spare", other_iv[] = "IV for the spare";
+    static uint8_t other[HC_128_CHECKPOINT_BYTES];
+    size_t n = write_at(&box, 1000, other);
+    show_same_run("same run as the box at position 1000", at_7, at_7_bytes, other, n);
+    n = write_at(&box, 0, other);
+    show_same_run("same run as the box at position 0", at_7, at_7_bytes, other, n);
+
+    check("set up", hc_set_up(&spare.head, HC_128, other_key, 16, iv, 16, spare.area, WORDS));
+    n = write_at(&spare, 7, other);
+    show_same_run("same run as a spare with another key", at_7, at_7_bytes, other, n);
+    check("set up", hc_set_up(&spare.head, HC_128, key, 16, other_iv, 16, spare.area, WORDS));
+    n = write_at(&spare, 7, other);
+    show_same_run("same run as a spare with another IV", at_7, at_7_bytes, other, n);
+
+    struct hc_head head_256 = {0};
+    static uint32_t area_256[HC_256_AREA_WORDS];
+    static uint8_t checkpoint_256[HC_256_CHECKPOINT_BYTES];
+    check("set up", hc_set_up(&head_256, HC_256, zeros, 32, zeros, 32, area_256, HC_256_AREA_WORDS));
+    struct hc_length written = hc_write(&head_256, area_256, HC_256_AREA_WORDS, checkpoint_256, sizeof checkpoint_256);
+    check("write", written.refusal);
+    show_same_run("same run as one of the other cipher", at_7, at_7_bytes, checkpoint_256, written.length);
+
+    memcpy(other, at_7, at_7_bytes);
+    other[at_7_bytes - 1] ^= 1;
+    show_same_run("same run as a damaged one", at_7, at_7_bytes, other, at_7_bytes);
+    show_same_run("the damaged one first", other, at_7_bytes, at_7, at_7_bytes);
+    show_same_run("same run as the empty string", at_7, at_7_bytes, other, 0);
+}
+
 int main(void)
 {
     const uint8_t key[] = "sixteen byte key", iv[] = "and a 16 byte IV";
@@ -249,7 +309,6 @@ int main(void)
     check("write", written.refusal);
     struct hc_words loaded = hc_load(&spare.head, spare.area, WORDS, checkpoint, written.length);
     check("load", loaded.refusal);
-    free(checkpoint);
     printf("checkpoint of %zu bytes, loaded: position %" PRIu64 "\n", written.length, spare.head.position);
 
     check("cipher", hc_cipher(&box.head, box.area, WORDS, log + 7, 3));
@@ -292,5 +351,7 @@ int main(void)
     printf("a head copied two ratios after its area is refused with %" PRIu64 ", and every byte stays\n", refusal);
 
     log_shift();
+    same_run_or_not(checkpoint, written.length, key, iv);
+    free(checkpoint);
     return 0;
 }

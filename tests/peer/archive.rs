@@ -34,6 +34,13 @@ pub struct HcCount {
 
 #[repr(C)]
 #[derive(Clone, Copy)]
+pub struct HcYesOrNo {
+    pub refusal: u64,
+    pub yes: u64,
+}
+
+#[repr(C)]
+#[derive(Clone, Copy)]
 pub struct HcRates {
     pub cents: [u16; 8],
 }
@@ -65,6 +72,7 @@ const _: () = assert!(size_of::<HcHead>() == 4 + 4 + 8 + 8);
 const _: () = assert!(size_of::<HcLength>() == 8 + 8);
 const _: () = assert!(size_of::<HcWords>() == 8 + 8 * 4 + 8 * 4);
 const _: () = assert!(size_of::<HcCount>() == 8 + 8);
+const _: () = assert!(size_of::<HcYesOrNo>() == 8 + 8);
 const _: () = assert!(size_of::<HcRates>() == 8 * 2);
 const _: () = assert!(size_of::<HcDuty>() == 8 + 8);
 const _: () = assert!(size_of::<HcSoundness>() == 8 + 8);
@@ -95,6 +103,7 @@ extern "C" {
         iv_bytes: usize,
     ) -> u64;
     pub fn hc_load(head: *mut HcHead, area: *mut u32, area_words: usize, string: *const u8, string_bytes: usize) -> HcWords;
+    pub fn hc_same_run(first: *const u8, first_bytes: usize, second: *const u8, second_bytes: usize) -> HcYesOrNo;
     pub fn hc_spent(head: *mut HcHead) -> HcCount;
     pub fn hc_write_volume(entries: *const u32, numbers: usize, lent: *mut u8, lent_bytes: usize) -> HcLength;
     pub fn hc_read_volume(volume: *const u8, volume_bytes: usize, entries: *mut u32, numbers: usize) -> HcCount;

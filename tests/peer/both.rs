@@ -1,16 +1,18 @@
 //! One engine and one table of rates held twice, by the archive and by the peer; each call is made on both and everything is
 //! compared.
 
-use crate::archive::{self, HcCount, HcDuty, HcHead, HcLength, HcPart, HcRates, HcSoundness, HcWords};
+use crate::archive::{self, HcCount, HcDuty, HcHead, HcLength, HcPart, HcRates, HcSoundness, HcWords, HcYesOrNo};
 use crate::calls::{self, Head};
 use crate::ciphers::{self, Cipher};
 use crate::comparison::{self as recordings, Found, Part, Recording, Why};
 use crate::duty;
 use crate::lent::Lent;
 use crate::rates::{self, Rates};
+use crate::same_run::{self, Found as RunFound, Refused};
 use crate::soundness::{self, Soundness};
 use crate::tally::Tally;
 use crate::volume::{self, Fault};
+use std::cmp::Ordering;
 use std::fmt::{Debug, LowerHex};
 use std::mem::transmute;
 use std::ops::Range;
@@ -125,6 +127,18 @@ fn answer<T>(result: &Result<T, u64>) -> String {
     }
 }
 
+/// The word that the count has for a string that load refuses.
+fn answer_of_checkpoint(string: &[u8], refusal: u64) -> String {
+    let fourth_announces = string.len() > 4 && string[1..5].iter().all(|byte| *byte >= 0x80);
+    match refusal {
+        9 if string.is_empty() => "9 no bytes".to_string(),
+        9 => "9 ends before the last group".to_string(),
+        10 if fourth_announces => "10 fourth group announces another".to_string(),
+        10 => "10 last group is 0".to_string(),
+        _ => refusal.to_string(),
+    }
+}
+
 /// The word that the count has for a string that is not a volume: what is wrong with it, and in which number.
 fn answer_of_fault(fault: Fault) -> String {
     match fault.number() {
@@ -181,6 +195,67 @@ fn fault_beside_check(refusal: u64, returned: HcPart, blender: &[u8], gauge: &[u
         _ => false,
     };
     (!is_right).then(|| format!("archive: check says {refusal}, compare {recording} with length {length} from {from}"))
+}
+
+/// An engine of the archive's alone, loaded from a string into an area of the right size, or the refusal.
+fn loaded_by_archive(string: &[u8]) -> Result<(HcHead, Vec<u32>), u64> {
+    let mut head = HcHead { code: 0, word: 0, position: 0, mark: 0 };
+    let mut area = vec![0; same_run::area_words(string)];
+    let returned = unsafe { archive::hc_load(&mut head, area.as_mut_ptr(), area.len(), string.as_ptr(), string.len()) };
+    plain(returned.refusal).map(|_| (head, area))
+}
+
+/// What is wrong with the archive's answer for two checkpoints beside its load, move and write. It must refuse the pair as load
+/// refuses the first string, else the second one, else with 23 where the first bytes differ. It must say yes just where load of
+/// the first, move by the difference of the positions and write give the second.
+fn fault_beside_load(returned: HcYesOrNo, [first, second]: [&[u8]; 2]) -> Option<String> {
+    let loaded = loaded_by_archive(first).and_then(|of_first| Ok((of_first, loaded_by_archive(second)?)));
+    let ((mut head, mut area), (other, _)) = match loaded {
+        Ok(_) if first[0] != second[0] => {
+            return (returned.refusal != 23).then(|| format!("archive: same run says {}, not 23", returned.refusal));
+        }
+        Ok(engines) => engines,
+        Err(refusal) => {
+            return (returned.refusal != refusal).then(|| format!("archive: same run says {}, load {refusal}", returned.refusal));
+        }
+    };
+    let distance = other.position as i64 - head.position as i64;
+    let mut lent = vec![0; 8197];
+    let moved = unsafe { archive::hc_move(&mut head, area.as_mut_ptr(), area.len(), distance) };
+    let written = unsafe { archive::hc_write(&mut head, area.as_ptr(), area.len(), lent.as_mut_ptr(), lent.len()) };
+    let is_second = moved == 0 && written.refusal == 0 && lent.get(..written.length) == Some(second);
+    let HcYesOrNo { refusal, yes } = returned;
+    ((refusal, yes) != (0, is_second as u64))
+        .then(|| format!("archive: same run says {refusal} and {yes}; load, move and write give the second: {is_second}"))
+}
+
+/// How two parts of one memory lie.
+fn how_they_lie(first: &Range<usize>, second: &Range<usize>) -> &'static str {
+    let is_apart = |one: &Range<usize>, other: &Range<usize>| one.end < other.start;
+    let is_before = |one: &Range<usize>, other: &Range<usize>| one.end == other.start;
+    if first == second {
+        "one buffer as both"
+    } else if is_before(first, second) {
+        "the second right behind the first"
+    } else if is_before(second, first) {
+        "the first right behind the second"
+    } else if is_apart(first, second) || is_apart(second, first) {
+        "apart"
+    } else {
+        "overlapping"
+    }
+}
+
+/// Two strings in one memory where they share as many bytes as they can: all of the shorter one where the other begins with it,
+/// else the end of the one that lies in front. Where they can share none, one lies right behind the other.
+fn close_together(first: &[u8], second: &[u8]) -> (Vec<u8>, Range<usize>, Range<usize>) {
+    let (longer, shorter) = if first.len() < second.len() { (second, first) } else { (first, second) };
+    if longer.starts_with(shorter) {
+        return (longer.to_vec(), 0..first.len(), 0..second.len());
+    }
+    let shared = (0..=shorter.len()).rev().find(|shared| first.ends_with(&second[..*shared])).unwrap();
+    let start = first.len() - shared;
+    ([first, &second[shared..]].concat(), 0..first.len(), start..start + second.len())
 }
 
 /// Whether a string is refused with 14 for its last byte, without which it ends early.
@@ -567,13 +642,7 @@ impl<'t> Both<'t> {
         comparison.guards("string", &lent);
         self.end(comparison)?;
         let cipher = string.first().and_then(|code| Cipher::of_code(*code as u32));
-        let answer = match result {
-            Err(9) if string.is_empty() => "9 no bytes".to_string(),
-            Err(9) => "9 ends before the last group".to_string(),
-            Err(10) if string.len() > 4 && string[4] >= 0x80 => "10 fourth group announces another".to_string(),
-            Err(10) => "10 last group is 0".to_string(),
-            _ => answer(&result),
-        };
+        let answer = result.map_or_else(|refusal| answer_of_checkpoint(string, refusal), |_| answer(&result));
         self.tally.call("load", &answer, cipher);
         if let (Ok(_), Some(cipher)) = (result, cipher) {
             if Cipher::of_code(before.code).is_some_and(|had| had != cipher) {
@@ -1111,6 +1180,124 @@ impl<'t> Both<'t> {
             if volume::entries_of(string).is_err() {
                 let place = if is_different { "after a difference" } else { "before any difference" };
                 self.tally.special(&format!("recordings, {recording} fault {place}"), None);
+            }
+        }
+    }
+
+    /// Same run, which takes neither head nor area; both are compared all the same. In half of the calls the two strings lie apart
+    /// from one another in memory. In the others they lie as close as they can, with either of them in front.
+    pub fn same_run(&mut self, first: &[u8], second: &[u8]) -> Agreed<bool> {
+        // The number of bits that are 1 is even for half of the numbers, in an order that does not repeat itself.
+        let turn = self.tally.calls;
+        if turn.count_ones() % 2 == 0 {
+            let between = vec![BYTE_GUARD; 32 + (turn % 16) as usize];
+            let start = first.len() + between.len();
+            let memory = [first, &between, second].concat();
+            return self.same_run_in(&memory, 0..first.len(), start..memory.len());
+        }
+        if turn / 3 % 2 == 0 {
+            let (memory, first, second) = close_together(first, second);
+            self.same_run_in(&memory, first, second)
+        } else {
+            let (memory, second, first) = close_together(second, first);
+            self.same_run_in(&memory, first, second)
+        }
+    }
+
+    /// Same run, where the two strings are parts of one memory; they may overlap.
+    pub fn same_run_in(&mut self, memory: &[u8], first: Range<usize>, second: Range<usize>) -> Agreed<bool> {
+        let strings = [&memory[first.clone()], &memory[second.clone()]];
+        let texts = strings.map(short);
+        let mut comparison = self.begin(format!("same run, first {}, second {}", texts[0], texts[1]));
+        let mut lent = self.lend(memory);
+        let memory_pointer = lent.pointer();
+        let pointers = [&first, &second].map(|string| unsafe { memory_pointer.add(string.start) });
+        let returned = unsafe { archive::hc_same_run(pointers[0], strings[0].len(), pointers[1], strings[1].len()) };
+        let found = same_run::of(strings[0], strings[1]);
+        let result = found.as_ref().map(|found| matches!(found, RunFound::Yes)).map_err(|refused| refused.number());
+        let yes = result.unwrap_or(false) as u64;
+        comparison.equal("answer", plain(returned.refusal), result.map(|_| ()));
+        comparison.equal("returned yes", returned.yes, yes);
+        let returned_bytes = unsafe { transmute::<HcYesOrNo, [u8; 16]>(returned) };
+        comparison.equal_bytes("returned structure", &returned_bytes, &bytes_of_numbers(&[number(&result), yes]));
+        comparison.equal_lists("memory of the checkpoints", lent.content(), memory);
+        comparison.guards("memory of the checkpoints", &lent);
+        comparison.differences.extend(fault_beside_load(returned, strings));
+        self.end(comparison)?;
+        self.tally.special(&format!("same run, {}", how_they_lie(&first, &second)), None);
+        match found {
+            Ok(found) => self.count_same_run(strings, found),
+            Err(refused) => self.count_refused_same_run(strings, refused),
+        }
+        Ok(result)
+    }
+
+    /// Counts a same run that is not refused.
+    fn count_same_run(&mut self, strings: [&[u8]; 2], found: RunFound) {
+        let cipher = same_run::cipher_of(strings[0]);
+        let [p, q] = strings.map(|string| same_run::parts(string).map_or(0, |(_, position, _)| position));
+        let order = match p.cmp(&q) {
+            Ordering::Less => "the second later",
+            Ordering::Equal => "one position",
+            Ordering::Greater => "the first later",
+        };
+        let answer = if matches!(found, RunFound::Yes) { "yes" } else { "no" };
+        self.tally.call("same run", answer, cipher);
+        let mut special = |holds: bool, what: &str| {
+            if holds {
+                self.tally.special(&format!("same run, {answer}, {what}"), cipher);
+            }
+        };
+        special(true, order);
+        let RunFound::No([words, others]) = found else {
+            let [in_first, in_second] = [p, q].map(|position| calls::groups_of(position).len());
+            let is_near = in_first < 4 && in_second < 4;
+            special(is_near && in_first != in_second, &format!("positions of {in_first} and {in_second} bytes"));
+            special(in_first == 4, "the first at a position of 4 bytes");
+            special(in_second == 4, "the second at a position of 4 bytes");
+            special(p != q && calls::steps_at(p) == calls::steps_at(q), "two positions in one word");
+            special(p == 0 && q > 0, "the first at 0");
+            special(q == 0 && p > 0, "the second at 0");
+            return;
+        };
+        let bits = |a: [u32; 8], b: [u32; 8]| a.iter().zip(b).map(|(a, b)| (a ^ b).count_ones()).sum::<u32>();
+        let (in_key, in_iv) = (bits(words.0, others.0), bits(words.1, others.1));
+        special(in_iv == 0, "another key alone");
+        special(in_key == 0, "another IV alone");
+        special(in_key > 0 && in_iv > 0, "another key and another IV");
+        special(in_key + in_iv == 1, "one bit differs");
+        special((words.1, words.0) == others, "key and IV exchanged");
+    }
+
+    /// Counts a refused same run.
+    fn count_refused_same_run(&mut self, strings: [&[u8]; 2], refused: Refused) {
+        let [cipher, other] = strings.map(same_run::cipher_of);
+        let is_of_two = cipher.is_some() && other.is_some() && cipher != other;
+        let [first, second] = strings;
+        match refused {
+            Refused::TwoCiphers => self.tally.call("same run", "23", cipher),
+            Refused::Second(refusal) => {
+                let answer = answer_of_checkpoint(second, refusal);
+                self.tally.call("same run", &format!("{answer}, second alone"), other);
+                if is_of_two {
+                    self.tally.special(&format!("same run, {refusal} before 23, second alone"), None);
+                }
+            }
+            Refused::First(refusal) => match same_run::refusal_of(second) {
+                None => {
+                    let answer = answer_of_checkpoint(first, refusal);
+                    self.tally.call("same run", &format!("{answer}, first alone"), cipher);
+                    if is_of_two {
+                        self.tally.special(&format!("same run, {refusal} before 23, first alone"), None);
+                    }
+                }
+                Some(after) => self.tally.call("same run", &format!("{refusal} in the first, {after} in the second"), None),
+            },
+        }
+        let parts = strings.map(same_run::parts);
+        if let [Ok((_, p, tables)), Ok((_, q, others))] = parts {
+            if tables == others && calls::steps_at(p) != calls::steps_at(q) {
+                self.tally.special("same run, 12 beside the same tables", cipher);
             }
         }
     }

@@ -1,7 +1,8 @@
 //! The eight calls of an engine and its checkpoints: the refusals in their order, then what an accepted call does. Document 01
 //! states seven of them, requests (a), (b) and (g) of document 02 change them, and the C header states the eighth, checkpoint
 //! length. The three calls of request (d) are in volume.rs, the one of request (e) in duty.rs, the one of request (j) in
-//! soundness.rs, the two of request (k) in comparison.rs and the two of request (n) in rates.rs.
+//! soundness.rs, the two of request (k) in comparison.rs, the one of request (m) in same_run.rs and the two of request (n) in
+//! rates.rs.
 
 use crate::ciphers::{self, Cipher};
 

@@ -1,6 +1,7 @@
 //! Cases made by hand, with the answer that document 01, request (a) or (g) of document 02 or the C header gives for each. Those
 //! of request (b) are in marks.rs, those of (d) in volumes.rs, those of (e) in duties.rs, those of (f) in effects.rs, those of (j)
-//! in soundnesses.rs, those of (k) in comparisons.rs and those of (n) in rate_tables.rs and rate_duties.rs.
+//! in soundnesses.rs, those of (k) in comparisons.rs, those of (m) in same_runs.rs and those of (n) in rate_tables.rs and
+//! rate_duties.rs.
 
 use crate::both::{Agreed, Both};
 use crate::calls::{self, Head, FRESH, LIMIT};
@@ -12,6 +13,7 @@ use crate::marks;
 use crate::random::Random;
 use crate::rate_duties;
 use crate::rate_tables;
+use crate::same_runs;
 use crate::soundnesses;
 use crate::tally::Tally;
 use crate::vectors;
@@ -81,7 +83,7 @@ fn random_first_words(random: &mut Random, cipher: Cipher) -> ([u32; 16], ([u32;
 }
 
 /// The expanded tables taken through the last pass and the steps of a position.
-fn from_expanded(cipher: Cipher, expanded: &[u32], position: u64) -> Vec<u32> {
+pub fn from_expanded(cipher: Cipher, expanded: &[u32], position: u64) -> Vec<u32> {
     let mut tables = expanded.to_vec();
     ciphers::last_pass(cipher, &mut tables);
     ciphers::steps_forward(cipher, &mut tables, 0, calls::steps_at(position));
@@ -693,5 +695,6 @@ pub fn run(seed: u64, tally: &mut Tally) -> Result<(), String> {
     rate_tables::run(tally)?;
     rate_duties::run(tally)?;
     soundnesses::run(tally)?;
-    comparisons::run(tally)
+    comparisons::run(tally)?;
+    same_runs::run(tally)
 }

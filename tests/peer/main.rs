@@ -18,11 +18,14 @@ mod marks;
 mod random;
 mod random_comparisons;
 mod random_rates;
+mod random_same_runs;
 mod random_soundnesses;
 mod random_volumes;
 mod rate_duties;
 mod rate_tables;
 mod rates;
+mod same_run;
+mod same_runs;
 mod soundness;
 mod soundnesses;
 mod tally;
@@ -53,6 +56,9 @@ const STRINGS_PER_LIST: u64 = 4;
 
 /// How many random pairs of recordings there are for each random list.
 const PAIRS_PER_LIST: u64 = 4;
+
+/// How many random pairs of checkpoints there are for each random list.
+const SAME_RUNS_PER_LIST: u64 = 2;
 
 /// A number from the command line, or its default.
 fn argument(place: usize, default: u64) -> Result<u64, String> {
@@ -109,6 +115,13 @@ fn compare(seed: u64, lists: u64) -> Result<(), String> {
         random_comparisons::run(seed, number, &mut random).map_err(|text| format!("random pair {number}, {text}"))?;
     }
     println!("{pairs} random pairs of recordings: no difference");
+
+    let pairs = SAME_RUNS_PER_LIST * lists;
+    for number in 0..pairs {
+        random_same_runs::run(seed, number, &mut random)
+            .map_err(|text| format!("random pair of checkpoints {number}, {text}"))?;
+    }
+    println!("{pairs} random pairs of checkpoints: no difference");
     let faults = random.print_and_check();
     if !faults.is_empty() {
         return Err(faults.join("\n"));

@@ -125,8 +125,68 @@ const PARTS: [(&str, Where); 7] = [
     ("refused", Neither),
 ];
 
+/// The answers for two checkpoints: yes or no, refused for one of them, refused for the first where the second would be refused,
+/// too, and two ciphers.
+const SAME_RUN: [(&str, Where); 55] = [
+    ("yes", Ciphers),
+    ("no", Ciphers),
+    ("9 no bytes, first alone", Neither),
+    ("1, first alone", Neither),
+    ("10 fourth group announces another, first alone", Ciphers),
+    ("9 ends before the last group, first alone", Ciphers),
+    ("10 last group is 0, first alone", Ciphers),
+    ("5, first alone", Ciphers),
+    ("11, first alone", Ciphers),
+    ("12, first alone", Ciphers),
+    ("9 no bytes, second alone", Neither),
+    ("1, second alone", Neither),
+    ("10 fourth group announces another, second alone", Ciphers),
+    ("9 ends before the last group, second alone", Ciphers),
+    ("10 last group is 0, second alone", Ciphers),
+    ("5, second alone", Ciphers),
+    ("11, second alone", Ciphers),
+    ("12, second alone", Ciphers),
+    ("9 in the first, 9 in the second", Neither),
+    ("9 in the first, 1 in the second", Neither),
+    ("9 in the first, 10 in the second", Neither),
+    ("9 in the first, 5 in the second", Neither),
+    ("9 in the first, 11 in the second", Neither),
+    ("9 in the first, 12 in the second", Neither),
+    ("1 in the first, 9 in the second", Neither),
+    ("1 in the first, 1 in the second", Neither),
+    ("1 in the first, 10 in the second", Neither),
+    ("1 in the first, 5 in the second", Neither),
+    ("1 in the first, 11 in the second", Neither),
+    ("1 in the first, 12 in the second", Neither),
+    ("10 in the first, 9 in the second", Neither),
+    ("10 in the first, 1 in the second", Neither),
+    ("10 in the first, 10 in the second", Neither),
+    ("10 in the first, 5 in the second", Neither),
+    ("10 in the first, 11 in the second", Neither),
+    ("10 in the first, 12 in the second", Neither),
+    ("5 in the first, 9 in the second", Neither),
+    ("5 in the first, 1 in the second", Neither),
+    ("5 in the first, 10 in the second", Neither),
+    ("5 in the first, 5 in the second", Neither),
+    ("5 in the first, 11 in the second", Neither),
+    ("5 in the first, 12 in the second", Neither),
+    ("11 in the first, 9 in the second", Neither),
+    ("11 in the first, 1 in the second", Neither),
+    ("11 in the first, 10 in the second", Neither),
+    ("11 in the first, 5 in the second", Neither),
+    ("11 in the first, 11 in the second", Neither),
+    ("11 in the first, 12 in the second", Neither),
+    ("12 in the first, 9 in the second", Neither),
+    ("12 in the first, 1 in the second", Neither),
+    ("12 in the first, 10 in the second", Neither),
+    ("12 in the first, 5 in the second", Neither),
+    ("12 in the first, 11 in the second", Neither),
+    ("12 in the first, 12 in the second", Neither),
+    ("23", Ciphers),
+];
+
 /// For each call the answers that it must give.
-const EXPECTED: [(&str, &[(&str, Where)]); 20] = [
+const EXPECTED: [(&str, &[(&str, Where)]); 21] = [
     ("set up", &[("accepted", Ciphers), ("1", Neither), ("2", Ciphers), ("3", Ciphers), ("4", Ciphers)]),
     ("cipher", &[("accepted", Ciphers), ("1", Neither), ("4", Ciphers), ("5", Ciphers), ("13", Ciphers), ("6", Ciphers)]),
     (
@@ -187,6 +247,7 @@ const EXPECTED: [(&str, &[(&str, Where)]); 20] = [
     ("volume soundness", &SOUNDNESS),
     ("check recordings", &RECORDINGS),
     ("compare recordings", &PARTS),
+    ("same run", &SAME_RUN),
     (
         "encipher volume",
         &[
@@ -206,7 +267,7 @@ const EXPECTED: [(&str, &[(&str, Where)]); 20] = [
 ];
 
 /// Calls of special interest that must occur for both ciphers.
-const SPECIAL: [&str; 63] = [
+const SPECIAL: [&str; 86] = [
     "cipher of no bytes",
     "cipher from inside a word",
     "cipher past the last word of a table",
@@ -270,10 +331,33 @@ const SPECIAL: [&str; 63] = [
     "encipher volume that ends at the mark",
     "encipher volume from behind the mark, which rises",
     "encipher volume with a mark over the limit",
+    "same run, yes, one position",
+    "same run, yes, the first later",
+    "same run, yes, the second later",
+    "same run, yes, positions of 1 and 2 bytes",
+    "same run, yes, positions of 1 and 3 bytes",
+    "same run, yes, positions of 2 and 1 bytes",
+    "same run, yes, positions of 2 and 3 bytes",
+    "same run, yes, positions of 3 and 1 bytes",
+    "same run, yes, positions of 3 and 2 bytes",
+    "same run, yes, the first at a position of 4 bytes",
+    "same run, yes, the second at a position of 4 bytes",
+    "same run, yes, two positions in one word",
+    "same run, yes, the first at 0",
+    "same run, yes, the second at 0",
+    "same run, no, one position",
+    "same run, no, the first later",
+    "same run, no, the second later",
+    "same run, no, another key alone",
+    "same run, no, another IV alone",
+    "same run, no, another key and another IV",
+    "same run, no, one bit differs",
+    "same run, no, key and IV exchanged",
+    "same run, 12 beside the same tables",
 ];
 
 /// Calls of special interest that must occur where the code names no cipher or the call takes none.
-const SPECIAL_WITHOUT_CIPHER: [&str; 117] = [
+const SPECIAL_WITHOUT_CIPHER: [&str; 132] = [
     "14, 15 or 16 before 1 in encipher volume",
     "write volume of no entries",
     "write volume of 2,000 entries",
@@ -391,6 +475,21 @@ const SPECIAL_WITHOUT_CIPHER: [&str; 117] = [
     "recordings, gauge's fault after a difference",
     "recordings, gauge's fault before any difference",
     "recordings, one buffer as both",
+    "same run, 9 before 23, first alone",
+    "same run, 10 before 23, first alone",
+    "same run, 5 before 23, first alone",
+    "same run, 11 before 23, first alone",
+    "same run, 12 before 23, first alone",
+    "same run, 9 before 23, second alone",
+    "same run, 10 before 23, second alone",
+    "same run, 5 before 23, second alone",
+    "same run, 11 before 23, second alone",
+    "same run, 12 before 23, second alone",
+    "same run, apart",
+    "same run, the second right behind the first",
+    "same run, the first right behind the second",
+    "same run, overlapping",
+    "same run, one buffer as both",
 ];
 
 #[derive(Default)]

@@ -554,3 +554,71 @@ pub fn describe() {
         describe_string(&string[..n], secret);
     }
 }
+
+// ---- the command with two checkpoints
+
+// Says which of two checkpoints is refused: the first where it is refused beside itself, else the second. Two ciphers are said of the second.
+fn refuse_pair(first: &[u8], refusal: u64) {
+    let alone = same_run::same_run(first, first);
+    if alone.refusal != 0 {
+        refuse(2, refusal);
+    } else {
+        refuse(3, refusal);
+    }
+}
+
+// Says whether two checkpoints are of one run.
+fn put_same_run(first: &[u8], second: &[u8]) {
+    let answer = same_run::same_run(first, second);
+    let refusal = answer.refusal;
+    if refusal != 0 {
+        refuse_pair(first, refusal);
+        return;
+    }
+    let yes = answer.yes;
+    if yes {
+        io::write_all(STDOUT_FILENO, b"same run: yes\n");
+    } else {
+        io::write_all(STDOUT_FILENO, b"same run: no\n");
+    }
+}
+
+// Reads the second checkpoint, which the fourth word names.
+fn with_second(first: &[u8]) {
+    let mut second = [0u8; 8198];
+    let got = files::read_word(3, 8198, &mut second);
+    let ok = got.ok;
+    let n = got.n;
+    if ok {
+        put_same_run(first, &second[..n]);
+    }
+}
+
+// Whether a word of the command line is `-`.
+fn is_dash(i: usize) -> bool {
+    let mut path = io::buffer();
+    let n = os::arg(i, &mut path);
+    files::is_standard(&path[..n])
+}
+
+// same-run CHECKPOINT CHECKPOINT
+pub fn same_run() {
+    if os::arg_count() != 4 {
+        say::usage(STDERR_FILENO);
+        return;
+    }
+    if is_dash(2) && is_dash(3) {
+        say::wrong(
+            b"-",
+            b"standard input can be one of the two checkpoints, and not both.\n",
+        );
+        return;
+    }
+    let mut first = [0u8; 8198];
+    let got = files::read_word(2, 8198, &mut first);
+    let ok = got.ok;
+    let n = got.n;
+    if ok {
+        with_second(&first[..n]);
+    }
+}

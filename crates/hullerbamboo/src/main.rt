@@ -47,6 +47,7 @@ fn main() {
         Command::Open => commands::open(),
         Command::At => commands::at(),
         Command::Write => commands::write(),
+        Command::SameRun => commands::same_run(),
         Command::Help => say::usage(STDOUT_FILENO),
         Command::Unknown => say::usage(STDERR_FILENO),
     }

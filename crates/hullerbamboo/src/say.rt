@@ -18,6 +18,8 @@ pub fn usage(fd: i32) {
       writes the checkpoint of the same stream at another position
   write CIPHER KEYFILE IVFILE POSITION NEWCHECKPOINT
       writes the checkpoint of a key and an IV at a position
+  same-run CHECKPOINT CHECKPOINT
+      says yes where the two have the same key and IV, at whatever positions, else no
   help
 CIPHER is hc128 or hc256. Key and IV files hold 16 bytes each (hc128) or 32 (hc256).
 Positions count bytes, 0 to 67108864. A file to read or to make may be -, which is
@@ -97,6 +99,9 @@ fn put_meaning(fd: i32, refusal: u64) {
                 fd,
                 b"the word of the head is not the one that the tables have at this position",
             );
+        }
+        23 => {
+            io::write_all(fd, b"the two checkpoints are of different ciphers");
         }
         _ => {
             io::write_all(fd, b"a refusal that this program does not know");

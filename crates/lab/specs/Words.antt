@@ -6,7 +6,7 @@ use Rattle.laws.specs.Same.{same}
 use Rattle.cipher.specs.declared.Cipher.the-variants.{Hc128, Hc256}
 use Rattle.cipher.specs.Numbers.{codeOf}
 use Rattle.lab.specs.declared.Command.{Command}
-use Rattle.lab.specs.declared.Command.the-variants.{Cipher, Describe, Recover, Open, At, Write, Help, Unknown}
+use Rattle.lab.specs.declared.Command.the-variants.{Cipher, Describe, Recover, Open, At, Write, SameRun, Help, Unknown}
 
 -- the words that it knows, as the bytes of their letters
 abbrev pub «cipher» : List ℕ
@@ -27,6 +27,9 @@ abbrev pub «at» : List ℕ
 abbrev pub «write» : List ℕ
 «write» = 119 ∷ 114 ∷ 105 ∷ 116 ∷ 101 ∷ []
 
+abbrev pub «same-run» : List ℕ
+«same-run» = 115 ∷ 97 ∷ 109 ∷ 101 ∷ 45 ∷ 114 ∷ 117 ∷ 110 ∷ []
+
 abbrev pub «help» : List ℕ
 «help» = 104 ∷ 101 ∷ 108 ∷ 112 ∷ []
 
@@ -45,7 +48,8 @@ commandOf w =
     (cond (same w «open») Open
     (cond (same w «at») At
     (cond (same w «write») Write
-    (cond (same w «help») Help Unknown))))))
+    (cond (same w «same-run») SameRun
+    (cond (same w «help») Help Unknown)))))))
 
 -- the code of the cipher that a word names, 0 where it names none
 unfoldable pub cipherCode : List ℕ → ℕ

@@ -28,6 +28,7 @@ pub enum Command {
     Open,
     At,
     Write,
+    SameRun,
     Help,
     Unknown,
 }
@@ -53,6 +54,9 @@ pub fn command_of(word: &[u8]) -> Command
     }
     if same(word, b"write") {
         return Command::Write;
+    }
+    if same(word, b"same-run") {
+        return Command::SameRun;
     }
     if same(word, b"help") {
         return Command::Help;

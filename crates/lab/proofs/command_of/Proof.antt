@@ -64,13 +64,26 @@ returns-7 c =
 returns-8 : tie.Need-returns-8
 unfolding commandOf
 returns-8 c =
-    let p6 = c .before .before .before in
+    let p7 = c .before .before .before in
+    let p6 = p7 .before .before .before in
     let p5 = p6 .before .before .before in
     let p4 = p5 .before .before .before in
     let p3 = p4 .before .before .before in
     let p2 = p3 .before .before .before in
     let p1 = p2 .before .before .before in
-    rw (sym (p1 .before .same .ensures) ∙ p1 .if1 .left, sym (p2 .before .same2 .ensures) ∙ p2 .if2 .left, sym (p3 .before .same3 .ensures) ∙ p3 .if3 .left, sym (p4 .before .same4 .ensures) ∙ p4 .if4 .left, sym (p5 .before .same5 .ensures) ∙ p5 .if5 .left, sym (p6 .before .same6 .ensures) ∙ p6 .if6 .left, sym (c .before .same7 .ensures) ∙ c .if7 .left)
+    rw (sym (p1 .before .same .ensures) ∙ p1 .if1 .left, sym (p2 .before .same2 .ensures) ∙ p2 .if2 .left, sym (p3 .before .same3 .ensures) ∙ p3 .if3 .left, sym (p4 .before .same4 .ensures) ∙ p4 .if4 .left, sym (p5 .before .same5 .ensures) ∙ p5 .if5 .left, sym (p6 .before .same6 .ensures) ∙ p6 .if6 .left, sym (p7 .before .same7 .ensures) ∙ p7 .if7 .left, sym (c .before .same8 .ensures) ∙ c .if8 .taken)
+
+returns-9 : tie.Need-returns-9
+unfolding commandOf
+returns-9 c =
+    let p7 = c .before .before .before in
+    let p6 = p7 .before .before .before in
+    let p5 = p6 .before .before .before in
+    let p4 = p5 .before .before .before in
+    let p3 = p4 .before .before .before in
+    let p2 = p3 .before .before .before in
+    let p1 = p2 .before .before .before in
+    rw (sym (p1 .before .same .ensures) ∙ p1 .if1 .left, sym (p2 .before .same2 .ensures) ∙ p2 .if2 .left, sym (p3 .before .same3 .ensures) ∙ p3 .if3 .left, sym (p4 .before .same4 .ensures) ∙ p4 .if4 .left, sym (p5 .before .same5 .ensures) ∙ p5 .if5 .left, sym (p6 .before .same6 .ensures) ∙ p6 .if6 .left, sym (p7 .before .same7 .ensures) ∙ p7 .if7 .left, sym (c .before .same8 .ensures) ∙ c .if8 .left)
 
 pub command-of-spec : {M : Type 1} → statement M
 command-of-spec =
@@ -80,4 +93,5 @@ command-of-spec =
     let a4 = a3 (λ c. search needs) (λ c κs. search needs) returns-4 in
     let a5 = a4 (λ c. search needs) (λ c κs. search needs) returns-5 in
     let a6 = a5 (λ c. search needs) (λ c κs. search needs) returns-6 in
-    tie.close (a6 (λ c. search needs) (λ c κs. search needs) returns-7 returns-8)
+    let a7 = a6 (λ c. search needs) (λ c κs. search needs) returns-7 in
+    tie.close (a7 (λ c. search needs) (λ c κs. search needs) returns-8 returns-9)
