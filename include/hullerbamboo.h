@@ -38,7 +38,8 @@
  *   - two words that are equal by chance.
  * The full test of an area is hc_recover, whose refusal 12 means that no key and IV have these tables; it takes every step back to set up.
  *
- * Nothing here is authenticated: hc_load refuses a damaged checkpoint whose tables have no key and IV, and that is all it can tell.
+ * Nothing here is authenticated: hc_load and hc_same_run refuse a damaged checkpoint whose tables have no key and IV at its position, and that is all
+ * they can tell. A position that was changed inside one word, such as 5 to 8, has the same tables, and they take it as it is.
  *
  * "Stack" is the most that a call took below its return address in a measurement on x86-64 (bench/stack), with memcpy and memset bound beforehand. */
 #ifndef HULLERBAMBOO_H
@@ -242,9 +243,9 @@ struct hc_words hc_load(struct hc_head *head, uint32_t *area, size_t area_words,
  * and no byte more. No area and no head is needed. A run that was set up again with the same key and IV can't be told from the first. For each
  * checkpoint it takes every step back to set up, as hc_load does, so that the time grows with both positions.
  * Refusals: those of hc_load but for 4, which is about an area: 9, 1, then for the position 10 or 9, then 5, 11, 12, for first; then these for
- * second; then 23 where the two are of different ciphers. Stack: 8,640 bytes.
+ * second; then 23 where the two are of different ciphers. hc_same_run(first, first) tells whether it was first that was refused. Stack: 8,640 bytes.
  *
- * Whether a spare board's checkpoint is of the run that this one belongs to:
+ * Whether a spare board's checkpoint is of the same run as the box's:
  *
  *     struct hc_yes_or_no same = hc_same_run(box, box_bytes, spare, spare_bytes);
  *     if (same.refusal == HC_OK && same.yes)

@@ -183,7 +183,8 @@ fn cipher_in(string: &[u8]) -> Checked
     passed(c)
 }
 
-// What a checkpoint begins with, once every condition of load but the last holds: its cipher and position, and where its words begin.
+// What a checkpoint begins with, once the conditions of load up to 11 hold, 4 only where there is an area: its cipher and position, and where its
+// words begin.
 pub struct Beginning {
     pub refusal: u64,
     pub cipher: Cipher,

@@ -29,7 +29,7 @@ use Rattle.engine.specs.declared.Head.{Head}
 use Rattle.laws.specs.Result.{refused, accepted}
 use Rattle.conditions.specs.Limit.{limit}
 use Rattle.engine.specs.Head.{headAt, markAfter}
-use Rattle.conditions.specs.Conditions.{setUpCheck, headCheck, cipherCheck, endOf, moveCheck, undoAt, recoverCheck, loadFound, loadCheck}
+use Rattle.conditions.specs.Conditions.{setUpCheck, headCheck, cipherCheck, endOf, moveCheck, recoverCheck, loadFound, loadCheck}
 use Rattle.conditions.proofs.Undo.{none-at, found-at}
 use Rattle.engine.specs.Calls.{engineOf, headReady, setUp, setUpCall, cipher, cipherCall, encipherVolume, encipherVolumeCall, move, moveCall, write, writeCall, checkpointLength, checkpointLengthCall, recover, recoverCall, eightWords, load, loadCall, spent, spentCall}
 

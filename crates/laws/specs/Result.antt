@@ -31,7 +31,7 @@ refuse_without_ n none = refused n
 refuse_without_ n (some a) = accepted a
 
 -- 'A refusal is its number alone .. head and every lent byte keep their values': the refusal number, 0 where the call is accepted, and what the call
--- leaves. `old` is what a refused call leaves: head, area and lent bytes as they were, and 0 for what the call returns.
+-- leaves. `old` is what a refused call leaves: head, area and lent bytes as they were, and 0, an empty part or no for what the call returns.
 pub record Outcome (A : Type 0) : Type 0 where
   pub refusal : ℕ
   pub value : A

@@ -6,7 +6,7 @@ use Prim.Native.Nat.{ℕ}
 use native.Mathlib.Omega.{arith}
 use lib.ListN.{length, replicate}
 use Rattle.laws.specs.Same.{same}
-use Rattle.laws.specs.Result.{refused, accepted}
+use Rattle.laws.specs.Result.{refused}
 use Rattle.laws.proofs.Same.{and-left, and-right, true-alike, equal-same, same-equal}
 use Rattle.word.specs.Bytes.{words, AllWords}
 use Rattle.cipher.specs.declared.Cipher.{Cipher}

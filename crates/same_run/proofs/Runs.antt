@@ -1,6 +1,6 @@
 -- What the call answers, by what the two strings lead back to. Assumes nothing.
-use mathlib.Core.Path.{_≡_, refl, sym, ap, _∙_, subst}
-use mathlib.Core.Bool.{Bool, false}
+use mathlib.Core.Path.{_≡_, sym, _∙_}
+use mathlib.Core.Bool.{false}
 use mathlib.Core.List.{List}
 use Prim.Native.Nat.{ℕ}
 use borrow.Author.Tests.{eq-eqb, ne-eqb}
@@ -8,7 +8,6 @@ use lib.ListN.{length}
 use Rattle.laws.specs.Same.{same}
 use Rattle.laws.specs.Result.{refused, accepted}
 use Rattle.word.specs.Bytes.{AllWords}
-use Rattle.cipher.specs.declared.Cipher.{Cipher}
 use Rattle.cipher.specs.Numbers.{codeOf}
 use Rattle.cipher.proofs.Codes.{same-code}
 use Rattle.conditions.specs.Conditions.{Contents, stringCheck}

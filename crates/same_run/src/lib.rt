@@ -8,7 +8,7 @@ ghost use Rattle.same_run.specs.SameRun as SameRun;
 ghost use Rattle.same_run.specs.Found as Found;
 use cipher::Cipher;
 
-// The answer: the refusal number, 0 where the pair is accepted, and then yes or no.
+// The answer: the refusal number, 0 where the pair is accepted, and then yes or no; beside a refusal it is no.
 pub struct YesOrNo {
     pub refusal: u64,
     pub yes: bool,

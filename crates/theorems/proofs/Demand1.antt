@@ -17,7 +17,7 @@ use Rattle.comparison.specs.Comparison.{compareRecordings, compareRecordingsCal
 use Rattle.same_run.specs.SameRun.{sameRun, sameRunCall}
 use Rattle.checkpoint.specs.Checkpoint.{lengthOf}
 use Rattle.conditions.specs.Limit.{limit}
-use Rattle.conditions.specs.Conditions.{setUpCheck, headCheck, cipherCheck, within, endOf, moveCheck, undoAt, foundOr12, recoverCheck, cipherIn, loadCheck, stringCheck}
+use Rattle.conditions.specs.Conditions.{setUpCheck, headCheck, cipherCheck, within, endOf, moveCheck, undoAt, recoverCheck, cipherIn, loadCheck, stringCheck}
 use Rattle.engine.specs.Calls.{headReady, setUp, setUpCall, cipher, cipherCall, encipherVolume, encipherVolumeCall, move, moveCall, write, writeCall, checkpointLength, checkpointLengthCall, recover, recoverCall, load, loadCall, spent, spentCall}
 use Rattle.theorems.specs.Demand1.{Demand1}
 use Rattle.theorems.proofs.Within.{Within, by-none, first, after, then-line, line-unless, line-without, first-line, answers, word-within, head-within, found-within, end-within, cipher-within, contents-within, volume-within, rates-within}

@@ -174,12 +174,12 @@ module _ {C : Type 0} where
   unfolding load
   after-load string area o e k = after-line (loadCheck string (length area)) _ e (λ _. no-refusal) λ l e₁ r₁. k l e₁ (accepted-one refl r₁)
 
-pub load-accepted : (string area : List ℕ) (f : Four) → Checkpoint string f → length area ≡ areaLength (f .cipher)
+load-accepted : (string area : List ℕ) (f : Four) → Checkpoint string f → length area ≡ areaLength (f .cipher)
     → load string area ≡ accepted (openedOf (loadedOf f))
 unfolding load
 load-accepted string area f h z = rw (load-checkpoint string (length area) f h z)
 
-pub loaded :
+loaded :
     (string area : List ℕ) → AllBytes string
     → ((o : Loaded) × (load string area ≡ accepted o)) ↔ ((f : Four) × Checkpoint string f × (length area ≡ areaLength (f .cipher)))
 loaded string area all = (
@@ -190,7 +190,7 @@ loaded string area all = (
   (λ t. (_, load-accepted string area (t .0) (t .1) (t .2))),
 )
 
-pub named : (string area : List ℕ) (o : Loaded) (f : Four) → load string area ≡ accepted o → Checkpoint string f → Names o f
+named : (string area : List ℕ) (o : Loaded) (f : Four) → load string area ≡ accepted o → Checkpoint string f → Names o f
 named string area o f e h =
     after-load string area o e λ l e₁ r₁.
     subst (λ (x : Loaded). Names x f) (sym (ap openedOf (load-is string (length area) l f e₁ h)) ∙ r₁)

@@ -1,32 +1,31 @@
 -- Two checkpoints of one cipher have the same key and IV exactly where moving the first to the position of the second writes the second.
 -- Assumes nothing.
-use mathlib.Core.Path.{_≡_, refl, sym, ap, ap₂, _∙_, subst, subst₂}
+use mathlib.Core.Path.{_≡_, refl, sym, ap, _∙_, subst₂}
 use mathlib.Core.Bool.{Bool, true, false, _&&_, false≢true}
-use mathlib.Core.List.{List, [], _∷_}
-use mathlib.Core.Logic.{_↔_, _⊎_, inl, inr, ⊎-elim}
+use mathlib.Core.List.{List, []}
+use mathlib.Core.Logic.{_↔_, _⊎_, inl, inr}
 use Prim.Native.Nat.{ℕ, _≤_}
 use lib.IntN.{ℤ}
-use native.Mathlib.Omega.{arith}
 use borrow.Author.Tests.{eq-eqb, ne-eqb, eqb-true}
 use lib.Dec.{eqb}
 use lib.ListN.{length, replicate, length-replicate}
 use Rattle.laws.specs.Same.{same}
-use Rattle.laws.proofs.Same.{and-left, and-right, not-true-is-false, equal-same, same-equal}
-use Rattle.laws.specs.Result.{Result, refused, accepted, _>>=_, _>>_, refuse_unless_}
+use Rattle.laws.proofs.Same.{and-left, and-right, equal-same, same-equal}
+use Rattle.laws.specs.Result.{Result, refused, accepted, _>>_, refuse_unless_}
 use Rattle.laws.proofs.Results.{no-refusal, accepted-one, refused-iff, after-line, after-unless}
 use Rattle.word.specs.Bytes.{AllBytes}
 use Rattle.cipher.specs.declared.Cipher.{Cipher}
 use Rattle.cipher.specs.Numbers.{codeOf, byCode, areaLength}
 use Rattle.cipher.proofs.Codes.{same-code}
 use Rattle.varint.specs.Number.{readGroups}
-use Rattle.checkpoint.specs.Checkpoint.{layout, lengthOf}
+use Rattle.checkpoint.specs.Checkpoint.{lengthOf}
 use Rattle.checkpoint.proofs.Checkpoint.{layout-length}
 use Rattle.conditions.specs.Conditions.{Contents, cipherIn, contentsIn, loadCheck, stringCheck}
-use Rattle.engine.specs.Calls.{Engine, Written, Loaded, eightWords, move, write, load}
+use Rattle.engine.specs.Calls.{Written, Loaded, eightWords, move, load}
 use Rattle.same_run.specs.SameRun.{sameKeyAndIv, sameRun}
-use Rattle.theorems.specs.Account.{Call, AllGiven, Four, IsFour, holds, atPosition, accountAfter, engineOfFour, tablesOf, checkpointOf, Checkpoint}
-use Rattle.theorems.specs.Demand3.{writeAfter, given}
-use Rattle.theorems.specs.SameRun.{BothLoad, OneCipher, distance, MovedAndWritten, LoadRefuses, Loads, SameRun}
+use Rattle.theorems.specs.Account.{Four, IsFour, holds, atPosition, engineOfFour, tablesOf, checkpointOf, Checkpoint}
+use Rattle.theorems.specs.Demand3.{given}
+use Rattle.theorems.specs.SameRun.{BothLoad, OneCipher, distance, MovedAndWritten, LoadRefuses, Loads, WrittenAfter, SameRun}
 use Rattle.theorems.proofs.Tables.{ends-at, four-area, four-true}
 use Rattle.theorems.proofs.Checkpoints.{fourOf, loadedOf, load-checkpoint, load-shows, load-is, checkpoint-of-one}
 use Rattle.theorems.proofs.Names.{key-and-iv-one}
@@ -34,7 +33,7 @@ use Rattle.theorems.proofs.Writes.{write-iff}
 use Rattle.theorems.proofs.Within.{within-not}
 use Rattle.theorems.proofs.Demand1.{sameRunNumbers, string-within, same-run-within}
 use Rattle.theorems.proofs.Demand2.{four-movable}
-use Rattle.theorems.proofs.Demand3.{openedOf, after-load, load-accepted, four-write-shows, written}
+use Rattle.theorems.proofs.Demand3.{openedOf, after-load, four-write-shows, written}
 
 -- ── load's conditions with an area and without ──
 
@@ -125,6 +124,18 @@ module _ (first second : List ℕ) (f g : Four) (h : Checkpoint first f) (i : Ch
   no-iff : f .cipher ≡ g .cipher → (sameRun first second ≡ accepted false) ↔ ((f .key ≡ g .key) × (f .iv ≡ g .iv) → ⊥)
   no-iff c = no-of-yes _ _ (answered c) (yes-iff c)
 
+  two-ciphers : (sameRun first second ≡ refused 23) ↔ (f .cipher ≡ g .cipher → ⊥)
+  unfolding sameRun
+  two-ciphers = (
+    (λ e c. no-refusal (sym (answered c) ∙ e)),
+    (λ differ.
+        rw (
+          checkpoint-string first f h,
+          checkpoint-string second g i,
+          ne-eqb (codeOf (f .cipher)) (codeOf (g .cipher)) (λ e. differ (same-code (f .cipher) (g .cipher) e)),
+        )),
+  )
+
 -- ── moved to the other's position, and written ──
 
 at-other : (f g : Four) → f .cipher ≡ g .cipher → (f .key ≡ g .key) × (f .iv ≡ g .iv) → atPosition f (g .position) ≡ g
@@ -186,6 +197,14 @@ module _ (first second lent : List ℕ) (t : BothLoad first second) (one : OneCi
       let code = ap (λ (o : Loaded). o .engine .head .code) ef ∙ one ∙ ap (λ (o : Loaded). o .engine .head .code) (sym eg) in
       subst₂ P ef eg (k f g h i (same-code (f .cipher) (g .cipher) code))
 
+  yes-iff-loaded : (sameRun first second ≡ accepted true) ↔ ((t .a .key ≡ t .b .key) × (t .a .iv ≡ t .b .iv))
+  yes-iff-loaded =
+      by-fours (λ a b. (sameRun first second ≡ accepted true) ↔ ((a .key ≡ b .key) × (a .iv ≡ b .iv))) λ f g h i c.
+      let y = yes-iff first second f g h i c in (
+        (λ e. let p = y .0 e in (ap eightWords (p .0), ap eightWords (p .1))),
+        (λ p. y .1 (key-and-iv-one f g (h .is-four) (i .is-four) c (p .0) (p .1))),
+      )
+
   moves-and-writes : length second ≤ length lent → MovedAndWritten (t .a) (distance (t .a) (t .b)) lent
   unfolding checkpointOf
   moves-and-writes l =
@@ -208,13 +227,10 @@ module _ (first second lent : List ℕ) (t : BothLoad first second) (one : OneCi
       no-of-yes _ answer e (yes-iff-writes m)
 
   same-iff-writes : (m : MovedAndWritten (t .a) (distance (t .a) (t .b)) lent) → ((t .a .key ≡ t .b .key) × (t .a .iv ≡ t .b .iv)) ↔ (given (m .w) ≡ second)
-  same-iff-writes =
-      by-fours (λ a b. (m : MovedAndWritten a (distance a b) lent) → ((a .key ≡ b .key) × (a .iv ≡ b .iv)) ↔ (given (m .w) ≡ second))
-      λ f g h i c m.
-      let w = writes-iff f g (h .is-four) (i .is-four) lent second i c m in (
-        (λ p. w .0 (key-and-iv-one f g (h .is-four) (i .is-four) c (p .0) (p .1))),
-        (λ e. let p = w .1 e in (ap eightWords (p .0), ap eightWords (p .1))),
-      )
+  same-iff-writes m =
+      let loaded-iff = yes-iff-loaded in
+      let writes = yes-iff-writes m in
+      ((λ p. writes .0 (loaded-iff .1 p)), (λ e. loaded-iff .0 (writes .1 e)))
 
 -- ── which pairs are accepted, and which are refused ──
 
@@ -295,40 +311,60 @@ either-order first second answer bytes bytes′ e =
     let (f, g, h, i, c) = accepted-iff first second bytes bytes′ .0 (answer, e) in
     other-order answer first second f g h i c e
 
+with-a-third :
+    (first second third : List ℕ) → AllBytes first → AllBytes second → AllBytes third
+    → sameRun first second ≡ accepted true → sameRun second third ≡ accepted true → sameRun first third ≡ accepted true
+with-a-third first second third bytes bytes′ bytes″ e e′ =
+    let (f, g, h, i, c) = accepted-iff first second bytes bytes′ .0 (true, e) in
+    let (g′, k, i′, j, c′) = accepted-iff second third bytes′ bytes″ .0 (true, e′) in
+    let one : g ≡ g′ = checkpoint-of-one second g g′ i i′ in
+    let (key, iv) = yes-iff first second f g h i c .0 e in
+    let (key′, iv′) = yes-iff second third g′ k i′ j c′ .0 e′ in
+    yes-iff first third f k h j (c ∙ ap (λ (x : Four). x .cipher) one ∙ c′) .1
+    (key ∙ ap (λ (x : Four). x .key) one ∙ key′, iv ∙ ap (λ (x : Four). x .iv) one ∙ iv′)
+
 -- ── after lists of calls ──
 
 held : {f g : Four} → holds f ≡ holds g → f ≡ g
 held e = cc
 
--- an accepted write gives the checkpoint of the account
-of-account : (calls : List Call) → AllGiven calls → (area lent : List ℕ) (w : Written) (f : Four) → writeAfter calls area lent ≡ accepted w
-    → accountAfter calls area ≡ holds f → Checkpoint (given w) f
-of-account calls given-calls area lent w f e a =
-    let (g, b, h) = written calls given-calls area lent w e in
-    let one : g ≡ f = held (sym b ∙ a) in
-    subst (Checkpoint (given w)) one h
+-- what is written is the checkpoint of the account
+of-account : (string : List ℕ) (f : Four) → WrittenAfter f string → Checkpoint string f
+of-account string f x =
+    let (g, b, h) = written (x .calls) (x .all-given) (x .area) (x .lent) (x .w) (x .written) in
+    subst₂ Checkpoint (sym (x .string-is)) (held (sym b ∙ x .account-is)) h
 
-after-lists :
-    (calls calls′ : List Call) → AllGiven calls → AllGiven calls′ → (area area′ lent lent′ : List ℕ) (w w′ : Written) (f g : Four)
-    → writeAfter calls area lent ≡ accepted w → writeAfter calls′ area′ lent′ ≡ accepted w′
-    → accountAfter calls area ≡ holds f → accountAfter calls′ area′ ≡ holds g
-    → (sameRun (given w) (given w′) ≡ accepted true) ↔ (atPosition f (g .position) ≡ g)
-after-lists calls calls′ x x′ area area′ lent lent′ w w′ f g e e′ a a′ =
-    let h = of-account calls x area lent w f e a in
-    let i = of-account calls′ x′ area′ lent′ w′ g e′ a′ in (
-      (λ q.
-          let c = one-cipher (given w) (given w′) f g h i true q in
-          at-other f g c (yes-iff (given w) (given w′) f g h i c .0 q)),
-      (λ q.
-          let c = ap (λ (x : Four). x .cipher) q in
-          yes-iff (given w) (given w′) f g h i c .1 (ap (λ (x : Four). x .key) q, ap (λ (x : Four). x .iv) q)),
-    )
+module _ (first second : List ℕ) (f g : Four) (x : WrittenAfter f first) (y : WrittenAfter g second) where
+  after-lists-yes : (sameRun first second ≡ accepted true) ↔ (atPosition f (g .position) ≡ g)
+  after-lists-yes =
+      let h = of-account first f x in
+      let i = of-account second g y in (
+        (λ e. let c = one-cipher first second f g h i true e in at-other f g c (yes-iff first second f g h i c .0 e)),
+        (λ e.
+            yes-iff first second f g h i (ap (λ (z : Four). z .cipher) e) .1
+            (ap (λ (z : Four). z .key) e, ap (λ (z : Four). z .iv) e)),
+      )
+
+  after-lists-no : (sameRun first second ≡ accepted false) ↔ ((f .cipher ≡ g .cipher) × (atPosition f (g .position) ≡ g → ⊥))
+  after-lists-no =
+      let h = of-account first f x in
+      let i = of-account second g y in (
+        (λ e.
+            let c = one-cipher first second f g h i false e in
+            (c, no-of-yes _ _ (answered first second f g h i c) after-lists-yes .0 e)),
+        (λ p. no-of-yes _ _ (answered first second f g h i (p .0)) after-lists-yes .1 (p .1)),
+      )
+
+  after-lists-23 : (sameRun first second ≡ refused 23) ↔ (f .cipher ≡ g .cipher → ⊥)
+  after-lists-23 = two-ciphers first second f g (of-account first f x) (of-account second g y)
 
 pub same-run : SameRun
 unfolding sameRun stringCheck cipherIn contentsIn byCode readGroups
 same-run = record {
   yes-iff = yes-iff;
   no-iff = no-iff;
+  two-ciphers = two-ciphers;
+  yes-iff-loaded = λ first second t one bytes bytes′. yes-iff-loaded first second [] t one bytes bytes′;
   moves-and-writes = λ first second lent t one bytes bytes′ l. moves-and-writes first second lent t one bytes bytes′ l;
   yes-iff-writes = λ first second lent t m one bytes bytes′. yes-iff-writes first second lent t one bytes bytes′ m;
   no-iff-writes = λ first second lent t m one bytes bytes′. no-iff-writes first second lent t one bytes bytes′ m;
@@ -338,7 +374,10 @@ same-run = record {
   never-4 = λ first second e. within-not 4 sameRunNumbers (sameRun first second) (same-run-within first second) refl e;
   itself = itself;
   either-order = either-order;
-  after-lists = after-lists;
+  with-a-third = with-a-third;
+  after-lists-yes = after-lists-yes;
+  after-lists-no = after-lists-no;
+  after-lists-23 = after-lists-23;
   no-bytes = λ second. refl;
   code-3 = λ second. refl;
   no-position = λ second. refl;

@@ -30,7 +30,7 @@ module _ {A : Type 0} where
     pub outcome-is : o ≡ record { refusal = 0; value = new }
 
   -- the call is refused: its refusal is one of these numbers, and what it leaves is `old`: head, area, table of rates in use and lent bytes as they
-  -- were, and 0 for what the call returns, or the empty beginning of the blender's buffer, or no
+  -- were, and 0 for what the call returns, or the empty beginning of the blender's buffer, or the answer no
   pub record Refused (numbers : List ℕ) (old : A) (result : Result A) (o : Outcome A) : Type 0 where
     pub number : ℕ
     pub one-of : List·Memᴰ number numbers
@@ -91,6 +91,6 @@ pub record Demand1 : Type 0 where
       (compareRecordings blender gauge) (compareRecordingsCall blender gauge)
   -- Of two checkpoints: load's refusals of the first but for 4, then those of the second, then 23; beside a refusal the answer is no.
   pub of-same-run :
-      (one two : List ℕ)
+      (first second : List ℕ)
       → AcceptedOrRefused (9 ∷ 1 ∷ 10 ∷ 9 ∷ 10 ∷ 5 ∷ 11 ∷ 12 ∷ 9 ∷ 1 ∷ 10 ∷ 9 ∷ 10 ∷ 5 ∷ 11 ∷ 12 ∷ 23 ∷ []) false
-      (sameRun one two) (sameRunCall one two)
+      (sameRun first second) (sameRunCall first second)

@@ -47,6 +47,17 @@ LoadRefuses string n = (area : List ℕ) × (load string area ≡ refused n) × 
 abbrev pub Loads : (string : List ℕ) → Type 0
 Loads string = (area : List ℕ) × (o : Loaded) × (load string area ≡ accepted o)
 
+-- the string was written after a list of calls whose account is the four
+pub record WrittenAfter (f : Four) (string : List ℕ) : Type 0 where
+  pub calls : List Call
+  pub all-given : AllGiven calls
+  pub area : List ℕ
+  pub lent : List ℕ
+  pub w : Written
+  pub written : writeAfter calls area lent ≡ accepted w
+  pub account-is : accountAfter calls area ≡ holds f
+  pub string-is : string ≡ given w
+
 pub record SameRun : Type 0 where
   -- 'Two accepted checkpoints of one cipher .. have the same key and IV': the answer is yes exactly where they have, and no exactly where they have
   -- not, at all positions.
@@ -56,6 +67,14 @@ pub record SameRun : Type 0 where
   pub no-iff :
       (first second : List ℕ) (f g : Four) → Checkpoint first f → Checkpoint second g → f .cipher ≡ g .cipher
       → (sameRun first second ≡ accepted false) ↔ ((f .key ≡ g .key) × (f .iv ≡ g .iv) → ⊥)
+  -- Checkpoints of different ciphers get 23, and no others do.
+  pub two-ciphers :
+      (first second : List ℕ) (f g : Four) → Checkpoint first f → Checkpoint second g
+      → (sameRun first second ≡ refused 23) ↔ (f .cipher ≡ g .cipher → ⊥)
+  -- Of two strings that load accepts, of one cipher: the answer is yes exactly where load gives the same words of key and IV for both.
+  pub yes-iff-loaded :
+      (first second : List ℕ) (t : BothLoad first second) → OneCipher t → AllBytes first → AllBytes second
+      → (sameRun first second ≡ accepted true) ↔ ((t .a .key ≡ t .b .key) × (t .a .iv ≡ t .b .iv))
   -- '.. exactly when moving the first by q - p writes the second.' The move and the write are accepted, where at least as many bytes are lent as the
   -- second has, ..
   pub moves-and-writes :
@@ -70,7 +89,7 @@ pub record SameRun : Type 0 where
       (first second lent : List ℕ) (t : BothLoad first second) (m : MovedAndWritten (t .a) (distance (t .a) (t .b)) lent)
       → OneCipher t → AllBytes first → AllBytes second
       → (sameRun first second ≡ accepted false) ↔ (given (m .w) ≡ second → ⊥)
-  -- .. so exactly where the key and the IV that load gives are the same.
+  -- .. so exactly where load gives the same words of key and IV for both.
   pub same-iff-writes :
       (first second lent : List ℕ) (t : BothLoad first second) (m : MovedAndWritten (t .a) (distance (t .a) (t .b)) lent)
       → OneCipher t → AllBytes first → AllBytes second
@@ -86,19 +105,28 @@ pub record SameRun : Type 0 where
       → (sameRun first second ≡ refused n)
       ↔ (LoadRefuses first n ⊎ ((Loads first × LoadRefuses second n) ⊎ ((t : BothLoad first second) × (OneCipher t → ⊥) × (n ≡ 23))))
   pub never-4 : (first second : List ℕ) → sameRun first second ≡ refused 4 → ⊥
-  -- A checkpoint is of one run with itself, and the order of two does not matter to the answer.
+  -- A checkpoint is of one run with itself, the order of two does not matter to the answer, and two that are of one run with a third are so with each
+  -- other.
   pub itself : (string : List ℕ) (f : Four) → Checkpoint string f → sameRun string string ≡ accepted true
   pub either-order :
       (first second : List ℕ) (answer : Bool) → AllBytes first → AllBytes second
       → sameRun first second ≡ accepted answer → sameRun second first ≡ accepted answer
+  pub with-a-third :
+      (first second third : List ℕ) → AllBytes first → AllBytes second → AllBytes third
+      → sameRun first second ≡ accepted true → sameRun second third ≡ accepted true → sameRun first third ≡ accepted true
   -- Of what was written after any two lists of calls, the answer is yes exactly where the account of the first, at the position of the second, is the
-  -- account of the second: where cipher, key and IV are the same.
-  pub after-lists :
-      (calls calls′ : List Call) → AllGiven calls → AllGiven calls′ → (area area′ lent lent′ : List ℕ) (w w′ : Written) (f g : Four)
-      → writeAfter calls area lent ≡ accepted w → writeAfter calls′ area′ lent′ ≡ accepted w′
-      → accountAfter calls area ≡ holds f → accountAfter calls′ area′ ≡ holds g
-      → (sameRun (given w) (given w′) ≡ accepted true) ↔ (atPosition f (g .position) ≡ g)
-  -- Strings that are refused as the first, whatever the second is, ..
+  -- account of the second: where cipher, key and IV are the same. It is no exactly where the ciphers are the same and that is not so, and 23 exactly
+  -- where the ciphers are different.
+  pub after-lists-yes :
+      (first second : List ℕ) (f g : Four) → WrittenAfter f first → WrittenAfter g second
+      → (sameRun first second ≡ accepted true) ↔ (atPosition f (g .position) ≡ g)
+  pub after-lists-no :
+      (first second : List ℕ) (f g : Four) → WrittenAfter f first → WrittenAfter g second
+      → (sameRun first second ≡ accepted false) ↔ ((f .cipher ≡ g .cipher) × (atPosition f (g .position) ≡ g → ⊥))
+  pub after-lists-23 :
+      (first second : List ℕ) (f g : Four) → WrittenAfter f first → WrittenAfter g second
+      → (sameRun first second ≡ refused 23) ↔ (f .cipher ≡ g .cipher → ⊥)
+  -- Some strings that are refused as the first, whatever the second is, ..
   pub no-bytes : (second : List ℕ) → sameRun [] second ≡ refused 9
   pub code-3 : (second : List ℕ) → sameRun (0x03 ∷ []) second ≡ refused 1
   pub no-position : (second : List ℕ) → sameRun (0x01 ∷ []) second ≡ refused 9
@@ -107,7 +135,7 @@ pub record SameRun : Type 0 where
   pub last-group-0 : (second : List ℕ) → sameRun (0x01 ∷ 0x80 ∷ 0x00 ∷ []) second ≡ refused 10
   pub past-limit : (second : List ℕ) → sameRun (0x01 ∷ 0x81 ∷ 0x80 ∷ 0x80 ∷ 0x20 ∷ []) second ≡ refused 5
   pub no-words : (second : List ℕ) → sameRun (0x01 ∷ 0x00 ∷ []) second ≡ refused 11
-  -- .. and as the second after any checkpoint, of whichever cipher: 23 comes last.
+  -- .. and some that are refused as the second after any checkpoint, of whichever cipher: 23 comes last.
   pub second-no-bytes : (first : List ℕ) (f : Four) → Checkpoint first f → sameRun first [] ≡ refused 9
   pub second-code-3 : (first : List ℕ) (f : Four) → Checkpoint first f → sameRun first (0x03 ∷ []) ≡ refused 1
   pub second-128-no-words : (first : List ℕ) (f : Four) → Checkpoint first f → sameRun first (0x01 ∷ 0x00 ∷ []) ≡ refused 11
