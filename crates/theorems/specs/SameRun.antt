@@ -28,7 +28,7 @@ pub record BothLoad (first second : List ℕ) : Type 0 where
 abbrev pub OneCipher : {first second : List ℕ} → BothLoad first second → Type 0
 OneCipher t = t .a .engine .head .code ≡ t .b .engine .head .code
 
--- 'at positions p and q': the distance q - p
+-- 'at positions p and q': the distance q - p, which a signed 64-bit number holds, since both positions are within the limit
 abbrev pub distance : (a b : Loaded) → ℤ
 distance a b = pos (b .engine .head .position) -ℤ pos (a .engine .head .position)
 
