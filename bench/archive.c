@@ -27,7 +27,7 @@ static void *create(int code)
     return s;
 }
 
-/* The benchmark gives no call that the archive would refuse, but for a cut recording and pairs of checkpoints in check.c. */
+/* The benchmark gives no call that the archive would refuse, but for a cut recording, pairs of checkpoints and test loads in check.c. */
 static void expect_accepted(uint64_t refusal)
 {
     if (refusal != HC_OK)
@@ -92,6 +92,22 @@ static int64_t same_run(const uint8_t *first, size_t first_bytes, const uint8_t 
 }
 #else
 #define same_run NULL
+#endif
+
+/* An earlier archive may have no test load. */
+#ifdef HC_TEST_CALLS
+static uint64_t test_load(void *state, const struct test *test, struct head *head, size_t times)
+{
+    struct state *s = state;
+    uint64_t refusal = HC_OK;
+    for (size_t i = 0; i < times; i++)
+        refusal = hc_test_load(&s->head, test->seed, test->count, test->code, test->key, test->key_bytes, test->iv, test->iv_bytes, s->area,
+                               test->area_words);
+    *head = (struct head){ s->head.code, s->head.word, s->head.position, s->head.mark };
+    return refusal;
+}
+#else
+#define test_load NULL
 #endif
 
 /* An earlier archive may have no volumes. */
@@ -161,5 +177,5 @@ static int64_t compare(const uint8_t *blender, size_t blender_bytes, const uint8
 #define compare NULL
 #endif
 
-const struct implementation COLUMN = { TITLE, create, set_up, cipher, 1, move, recover, write_checkpoint, load, same_run, write_volume, read_volume,
-                                       duty, soundness, compare };
+const struct implementation COLUMN = { TITLE, create, set_up, cipher, 1, move, recover, write_checkpoint, load, same_run, test_load, write_volume,
+                                       read_volume, duty, soundness, compare };

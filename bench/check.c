@@ -165,6 +165,72 @@ static void check_same_run(const struct implementation *const *all, size_t count
     }
 }
 
+/* What a test load leaves: the head, and in a checkpoint the tables. */
+struct end {
+    struct head head;
+    struct checkpoint checkpoint;
+};
+
+static void run_test_load(const struct implementation *it, int code, void *state, const struct test *test, uint64_t refusal, struct end *end)
+{
+    if (it->test_load(state, test, &end->head, 1) != refusal)
+        stop(it, code, "the refusal of a test load");
+    end->checkpoint.length = it->write(state, end->checkpoint.bytes, 1);
+}
+
+static void check_end(const struct implementation *it, int code, const struct end *wanted, const struct end *end)
+{
+    if (memcmp(&wanted->head, &end->head, sizeof end->head) != 0)
+        stop(it, code, "the head after a test load");
+    if (wanted->checkpoint.length != end->checkpoint.length ||
+        memcmp(wanted->checkpoint.bytes, end->checkpoint.bytes, end->checkpoint.length) != 0)
+        stop(it, code, "the tables after a test load");
+}
+
+/* Each refusal, in order: with six faults at once, and then with one fewer each time. Head and tables stay. */
+static void check_refused_loads(const struct implementation *it, int code, void *state, const struct test *sound, struct end *end)
+{
+    static const uint64_t refusals[6] = { 17, 18, 1, 2, 3, 4 };
+    struct end before = *end;
+    for (int faults = 6; faults > 0; faults--) {
+        struct test bad = *sound;
+        bad.seed = faults > 5 ? 0 : bad.seed;
+        bad.count = faults > 4 ? 1001 : bad.count;
+        bad.code = faults > 3 ? 3 : bad.code;
+        bad.key_bytes -= faults > 2 ? 1 : 0;
+        bad.iv_bytes -= faults > 1 ? 1 : 0;
+        bad.area_words--;
+        run_test_load(it, code, state, &bad, refusals[6 - faults], end);
+        check_end(it, code, &before, end);
+    }
+}
+
+/* Test loads from several seeds with several counts, each on an engine that has another key and IV and is elsewhere. From seed 290 come a move to
+ * byte 920 and a cipher call over no bytes, which leaves the mark. */
+static void check_test_load(const struct implementation *const *all, size_t count, int code)
+{
+    static const uint32_t seeds[] = { 1, 290, 0x80000000, 0xFFFFFFFF };
+    static const uint64_t counts[] = { 0, 1, 2, 100, 1000 };
+    enum { COUNTS = sizeof counts / sizeof *counts, LOADS = COUNTS * (sizeof seeds / sizeof *seeds) };
+    size_t key_bytes = code == 1 ? 16 : 32, area_words = code == 1 ? 1024 : 2048;
+    for (size_t l = 0; l < LOADS; l++) {
+        struct test test = { seeds[l / COUNTS], counts[l % COUNTS], (uint32_t)code, key, iv, key_bytes, key_bytes, area_words };
+        struct end wanted, end;
+        for (size_t k = 0; k < count; k++) {
+            if (all[k]->test_load == NULL)
+                continue;
+            void *state = all[k]->create(code);
+            all[k]->set_up(state, iv, key, 1);
+            all[k]->move(state, 1001);
+            run_test_load(all[k], code, state, &test, 0, &end);
+            if (k == 0)
+                wanted = end;
+            check_end(all[k], code, &wanted, &end);
+            check_refused_loads(all[k], code, state, &test, &end);
+        }
+    }
+}
+
 /* A volume against itself, and against one whose third entry, at byte 10, has a ratio that is smaller by 1, both ways and cut. */
 static void check_comparison(const struct implementation *it, const uint8_t *volume, size_t length, uint32_t *list, size_t numbers)
 {
@@ -216,6 +282,7 @@ void check_all_agree(const struct implementation *const *all, size_t count)
         check_keystream(all, count, code);
         check_checkpoint(all, count, code);
         check_same_run(all, count, code);
+        check_test_load(all, count, code);
     }
     check_volume(all, count);
 }

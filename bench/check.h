@@ -4,8 +4,8 @@
 
 #include "implementation.h"
 
-/* Stops the program with a sentence where an implementation differs from the first one in keystream, tables, key or IV, or answers or refuses
- * otherwise than it should. */
+/* Stops the program with a sentence where an implementation differs from the first one in keystream, head, tables, key or IV, or answers or
+ * refuses otherwise than it should. */
 void check_all_agree(const struct implementation *const *all, size_t count);
 
 #endif

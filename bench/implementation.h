@@ -10,6 +10,21 @@
 #define VOLUME_ENTRIES 2000
 #define LONGEST_VOLUME 16002
 
+/* What a test load is given. Its area is that of the state, of which so many words are lent. */
+struct test {
+    uint32_t seed;
+    uint64_t count;
+    uint32_t code;
+    const uint8_t *key, *iv;
+    size_t key_bytes, iv_bytes, area_words;
+};
+
+/* A head, with the word and the mark of requests (a) and (b) of document 02. */
+struct head {
+    uint32_t code, word;
+    uint64_t position, mark;
+};
+
 struct implementation {
     const char *title;
     /* A state for the cipher with this code, 1 for HC-128 and 2 for HC-256; it is never freed. */
@@ -30,6 +45,8 @@ struct implementation {
     /* Tells whether two checkpoints belong to one run, so many times in a row, and returns 1 for yes and 0 for no; minus the number of the refusal
      * where the pair is refused. */
     int64_t (*same_run)(const uint8_t *first, size_t first_bytes, const uint8_t *second, size_t second_bytes, size_t times);
+    /* Runs a test load, so many times in a row, and gives the head after it; returns 0, or the number of the refusal, where the head stays. */
+    uint64_t (*test_load)(void *state, const struct test *test, struct head *head, size_t times);
     /* Writes the volume of entries, four numbers each, so many times in a row, and returns its length; 0 where it is refused. */
     size_t (*write_volume)(const uint32_t *entries, size_t numbers, uint8_t *lent, size_t lent_bytes, size_t times);
     /* Reads a volume, so many times in a row, and returns the count of its entries; -1 where it is refused. */

@@ -9,6 +9,7 @@
 
 #define SMALL_POSITION 1001
 #define NEXT_WORD_POSITION 1005 /* The tables have taken one step more there. */
+#define SEED 1
 
 const struct row_about about[ROWS] = {
     [BULK_64_KIB] = { "bulk, 64 KiB buffer", MIB_PER_SECOND, 20 },
@@ -27,6 +28,7 @@ const struct row_about about[ROWS] = {
     [LOAD_SMALL] = { "load at position 1,001", MICROSECONDS, 20 },
     [SAME_RUN_SMALL] = { "same run at 1,001 and 1,005", MICROSECONDS, 20 },
     [SAME_RUN_LIMIT] = { "same run at the limit", MILLISECONDS, 1 },
+    [TEST_LOAD] = { "test load of 1,000 calls", MICROSECONDS, 10 },
     [WRITE_VOLUME] = { "write volume, 2,000 entries", MICROSECONDS, 20 },
     [READ_VOLUME] = { "read volume, 2,000 entries", MICROSECONDS, 20 },
     [DUTY] = { "duty on 2,000 entries", MICROSECONDS, 20 },
@@ -95,6 +97,7 @@ static int has(const struct implementation *it, enum row row)
     case LOAD_SMALL: return it->load != NULL;
     case SAME_RUN_SMALL:
     case SAME_RUN_LIMIT: return it->same_run != NULL;
+    case TEST_LOAD: return it->test_load != NULL;
     case WRITE_VOLUME: return it->write_volume != NULL;
     case READ_VOLUME: return it->read_volume != NULL;
     case DUTY: return it->duty != NULL;
@@ -188,6 +191,19 @@ static double time_same_run(struct engine *e, int64_t p, int64_t q, size_t times
     return (now() - start) / (double)times;
 }
 
+static double time_test_load(struct engine *e, int code)
+{
+    size_t times = 4, key_bytes = code == 1 ? 16 : 32, area_words = code == 1 ? 1024 : 2048;
+    struct test test = { SEED, 1000, (uint32_t)code, key, iv, key_bytes, key_bytes, area_words };
+    struct head head;
+    double start = now();
+    if (e->it->test_load(e->state, &test, &head, times) != 0)
+        abort();
+    double end = now();
+    e->position = (int64_t)head.position;
+    return (end - start) / (double)times;
+}
+
 /* The entries have random numbers over their whole ranges, the same in every run. */
 static void fill_entries(void)
 {
@@ -248,7 +264,7 @@ static double time_compare(const struct implementation *it)
     return (now() - start) / (double)times;
 }
 
-static double time_row(struct engine *e, enum row row)
+static double time_row(struct engine *e, enum row row, int cipher)
 {
     switch (row) {
     case SET_UP: return time_set_up(e);
@@ -260,6 +276,7 @@ static double time_row(struct engine *e, enum row row)
     case LOAD_SMALL: return time_load(e, SMALL_POSITION, 16);
     case SAME_RUN_SMALL: return time_same_run(e, SMALL_POSITION, NEXT_WORD_POSITION, 16);
     case SAME_RUN_LIMIT: return time_same_run(e, LIMIT, LIMIT, 1);
+    case TEST_LOAD: return time_test_load(e, cipher + 1);
     case WRITE_VOLUME: return time_write_volume(e->it);
     case READ_VOLUME: return time_read_volume(e->it);
     case DUTY: return time_duty(e->it);
@@ -277,7 +294,7 @@ static void measure_turn(enum row row, int cipher, size_t count, size_t first)
         struct engine *e = &engines[cipher][c];
         if (!has(e->it, row))
             continue;
-        double t = time_row(e, row);
+        double t = time_row(e, row, cipher);
         double *least = &seconds[row][cipher][c];
         if (*least == 0 || t < *least)
             *least = t;

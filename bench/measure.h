@@ -21,6 +21,7 @@ enum row {
     LOAD_LIMIT,
     SAME_RUN_SMALL,
     SAME_RUN_LIMIT,
+    TEST_LOAD,
     WRITE_VOLUME,
     READ_VOLUME,
     DUTY,

@@ -67,6 +67,14 @@ static int64_t same_run(const uint8_t *first, size_t first_bytes, const uint8_t 
     return answer;
 }
 
+static uint64_t test_load(void *state, const struct test *test, struct head *head, size_t times)
+{
+    uint64_t refusal = 0;
+    for (size_t i = 0; i < times; i++)
+        refusal = plain_test_load(state, test, head);
+    return refusal;
+}
+
 static size_t write_volume(const uint32_t *entries, size_t numbers, uint8_t *lent, size_t lent_bytes, size_t times)
 {
     struct plain_answer written = { 0, 0 };
@@ -108,5 +116,5 @@ static int64_t compare(const uint8_t *blender, size_t blender_bytes, const uint8
     return from;
 }
 
-const struct implementation COLUMN = { TITLE, create, set_up, cipher, 1, move, recover, write_checkpoint, load, same_run, write_volume, read_volume,
-                                       duty, soundness, compare };
+const struct implementation COLUMN = { TITLE, create, set_up, cipher, 1, move, recover, write_checkpoint, load, same_run, test_load, write_volume,
+                                       read_volume, duty, soundness, compare };

@@ -18,17 +18,17 @@ struct call {
 
 static struct call set_up = {"hc_set_up", 0}, cipher = {"hc_cipher", 0}, move = {"hc_move", 0}, checkpoint_length = {"hc_checkpoint_length", 0},
                    writing = {"hc_write", 0}, recover = {"hc_recover", 0}, load = {"hc_load", 0}, same_run = {"hc_same_run", 0},
-                   spent = {"hc_spent", 0}, write_volume = {"hc_write_volume", 0}, read_volume = {"hc_read_volume", 0},
-                   encipher_volume = {"hc_encipher_volume", 0}, our_rates = {"hc_our_rates", 0}, load_rates = {"hc_load_rates", 0},
-                   duty = {"hc_volume_duty", 0}, soundness = {"hc_volume_soundness", 0}, check_pair = {"hc_check_recordings", 0},
-                   compare = {"hc_compare_recordings", 0};
+                   test_load = {"hc_test_load", 0}, spent = {"hc_spent", 0}, write_volume = {"hc_write_volume", 0},
+                   read_volume = {"hc_read_volume", 0}, encipher_volume = {"hc_encipher_volume", 0}, our_rates = {"hc_our_rates", 0},
+                   load_rates = {"hc_load_rates", 0}, duty = {"hc_volume_duty", 0}, soundness = {"hc_volume_soundness", 0},
+                   check_pair = {"hc_check_recordings", 0}, compare = {"hc_compare_recordings", 0};
 
-/* Makes a call with up to eight arguments, the last two on the stack, and keeps the most that it took. */
-static void measure(struct call *call, void *function, const uintptr_t arguments[8])
+/* Makes a call with up to ten arguments, the last four on the stack, and keeps the most that it took. */
+static void measure(struct call *call, void *function, const uintptr_t arguments[10])
 {
     uint8_t *top = stack + STACK - ABOVE;
     memset(stack, FILL, STACK);
-    memcpy(top, arguments + 6, 2 * sizeof *arguments);
+    memcpy(top, arguments + 6, 4 * sizeof *arguments);
     __asm__ volatile("mov %%rsp, %%rbx\n\tmov %0, %%rsp\n\tmov %1, %%rax\n\tmov %2, %%r10\n\t"
                      "mov 0(%%r10), %%rdi\n\tmov 8(%%r10), %%rsi\n\tmov 16(%%r10), %%rdx\n\t"
                      "mov 24(%%r10), %%rcx\n\tmov 32(%%r10), %%r8\n\tmov 40(%%r10), %%r9\n\t"
@@ -45,7 +45,7 @@ static void measure(struct call *call, void *function, const uintptr_t arguments
         call->most = depth;
 }
 
-#define MEASURE(call, function, ...) measure(&call, (void *)function, (const uintptr_t[8]){__VA_ARGS__})
+#define MEASURE(call, function, ...) measure(&call, (void *)function, (const uintptr_t[10]){__VA_ARGS__})
 #define AT(pointer) (uintptr_t)(pointer)
 
 /* Every call of one cipher: at each position what a head there can do, and then cipher and move calls of many lengths. */
@@ -151,6 +151,34 @@ static void of_same_runs(uint32_t code)
     of_refused(&bad, &sound, HC_BAD_CODE);
 }
 
+/* A test load whose refusal is known, on a head and an area that other test loads left. */
+static void of_test_load(uint32_t seed, uint64_t count, uint32_t code, size_t key_bytes, size_t iv_bytes, size_t words, uint64_t refusal)
+{
+    static struct hc_head head;
+    MEASURE(test_load, hc_test_load, AT(&head), seed, count, code, AT(key), key_bytes, AT(iv), iv_bytes, AT(area), words);
+    if (hc_test_load(&head, seed, count, code, key, key_bytes, iv, iv_bytes, area, words) != refusal) {
+        printf("a test load was not answered with %d\n", (int)refusal);
+        exit(1);
+    }
+}
+
+/* Test loads from several seeds, with none to 1,000 calls; and each refusal, where all that is refused later is at fault as well. */
+static void of_test_loads(uint32_t code, size_t key_bytes, size_t words)
+{
+    static const uint32_t seeds[] = {1, 2, 3, 12345, 0x80000000, 0xFFFFFFFF};
+    static const uint64_t counts[] = {0, 1, 2, 6, 100, HC_TEST_CALLS};
+    for (size_t i = 0; i < sizeof seeds / sizeof *seeds; i++)
+        for (size_t k = 0; k < sizeof counts / sizeof *counts; k++)
+            of_test_load(seeds[i], counts[k], code, key_bytes, key_bytes, words, HC_OK);
+    size_t short_key = key_bytes - 1, few_words = words - 1;
+    of_test_load(0, HC_TEST_CALLS + 1, 3, short_key, short_key, few_words, HC_SEED_ZERO);
+    of_test_load(1, HC_TEST_CALLS + 1, 3, short_key, short_key, few_words, HC_MANY_CALLS);
+    of_test_load(1, HC_TEST_CALLS, 3, short_key, short_key, few_words, HC_BAD_CODE);
+    of_test_load(1, HC_TEST_CALLS, code, short_key, short_key, few_words, HC_KEY_LENGTH);
+    of_test_load(1, HC_TEST_CALLS, code, key_bytes, short_key, few_words, HC_IV_LENGTH);
+    of_test_load(1, HC_TEST_CALLS, code, key_bytes, key_bytes, few_words, HC_AREA_LENGTH);
+}
+
 /* A volume against itself, against beginnings of it, against one with another ratio, both ways, and against that one cut. */
 static void of_recordings(const uint8_t *volume, size_t length, uint32_t *entries, size_t n)
 {
@@ -237,13 +265,15 @@ static void of_rates(void)
 
 int main(void)
 {
-    const struct call *calls[] = {&set_up, &cipher, &move, &checkpoint_length, &writing, &recover, &load, &same_run, &spent,
-                                  &write_volume, &read_volume, &encipher_volume, &our_rates, &load_rates, &duty, &soundness,
+    const struct call *calls[] = {&set_up, &cipher, &move, &checkpoint_length, &writing, &recover, &load, &same_run, &test_load,
+                                  &spent, &write_volume, &read_volume, &encipher_volume, &our_rates, &load_rates, &duty, &soundness,
                                   &check_pair, &compare};
     of_cipher(HC_128, HC_128_KEY_BYTES, HC_128_AREA_WORDS);
     of_cipher(HC_256, HC_256_KEY_BYTES, HC_256_AREA_WORDS);
     of_same_runs(HC_128);
     of_same_runs(HC_256);
+    of_test_loads(HC_128, HC_128_KEY_BYTES, HC_128_AREA_WORDS);
+    of_test_loads(HC_256, HC_256_KEY_BYTES, HC_256_AREA_WORDS);
     of_volumes(HC_128, HC_128_KEY_BYTES, HC_128_AREA_WORDS);
     of_volumes(HC_256, HC_256_KEY_BYTES, HC_256_AREA_WORDS);
     of_rates();

@@ -101,6 +101,9 @@ extern "C" {
 #define HC_PRODUCTS 8
 #define HC_RATES_BYTES 33
 
+/* The most calls that a test load runs after its set up. */
+#define HC_TEST_CALLS 1000
+
 enum hc_refusal {
     HC_OK = 0,
     HC_BAD_CODE = 1,       /* the cipher code is neither 1 nor 2; a head before set up or load has code 0 */
@@ -119,6 +122,8 @@ enum hc_refusal {
     HC_VOLUME_NUMBER = 14, /* a number of the volume is not in its shortest form, or its third group announces another */
     HC_VOLUME_RANGE = 15,  /* a number of the volume, or of the entries to write, is out of its range */
     HC_VOLUME_ENDS = 16,   /* the volume ends early or has bytes after its last entry; or the numbers to write are not whole entries */
+    HC_SEED_ZERO = 17,     /* the seed of the test load is 0 */
+    HC_MANY_CALLS = 18,    /* the test load is to run more than HC_TEST_CALLS calls */
     HC_TWO_CIPHERS = 23,   /* the two checkpoints are of different ciphers */
     HC_BAD_RATES = 24,     /* a number of the table of rates is not in its shortest form, its third group announces another, or it is out of its
                               range; or the table ends early or has bytes after its last pair */
@@ -253,8 +258,28 @@ struct hc_words hc_load(struct hc_head *head, uint32_t *area, size_t area_words,
  */
 struct hc_yes_or_no hc_same_run(const uint8_t *first, size_t first_bytes, const uint8_t *second, size_t second_bytes);
 
+/* Test load: sets up as hc_set_up does, and then runs count calls that come from the seed, so that two benches put the same strain on a box. The seed
+ * is a first word. A word x becomes the next one so, each shift being of the word so far and cut to 32 bits:
+ *
+ *     x ^= x << 13;
+ *     x ^= x >> 17;
+ *     x ^= x << 5;
+ *
+ * Each next word w gives one call, the first new word the first call. Where w is even, it is a move to the byte (w / 2) % 4096, forward or back; where
+ * w is odd, it is a cipher call over (w / 2) % 257 zero bytes, also over none. These bytes are the call's own, and you do not get them. No call that
+ * comes from a seed is refused. Head, word, tables, position and mark are then those after the set up and these calls, whatever the head was, and
+ * hc_write gives the checkpoint of this code, key and IV at the position that the words lead to, which is never over 260,095. With a count of 0 it is
+ * the set up alone. Use it with a key and an IV that encipher nothing else: it takes keystream from position 0 on.
+ * Refusals: 17 where the seed is 0, 18 where count is over HC_TEST_CALLS, then 1, 2, 3, 4 as hc_set_up. Stack: 736 bytes.
+ *
+ *     From seed 1 come 0x00042021, 0x04080601, 0x9DCCA8C5, 0x1255994F and 0x8EF917D1, cipher calls over 2, 256, 166, 253 and 146 bytes,
+ *     and then 0x2C6F5BD0, a move to byte 3560.
+ */
+uint64_t hc_test_load(struct hc_head *head, uint32_t seed, uint64_t count, uint32_t code, const uint8_t *key, size_t key_bytes, const uint8_t *iv,
+                      size_t iv_bytes, uint32_t *area, size_t area_words);
+
 /* Spent: how far the keystream has been used, which is the head's mark: the farthest position that a cipher call, or the enciphering of a volume,
- * reached since the last set up or load. Set up starts it at 0, load at the loaded position, and a move leaves it. A mark that you made up is taken
+ * reached since the last set up or load; a test load is a set up and the calls after it. Set up starts it at 0, load at the loaded position, and a move leaves it. A mark that you made up is taken
  * as it is: no call checks it, hc_spent returns it, and hc_cipher and hc_encipher_volume take the larger of it and their own end. Refusal 5 is about
  * the position, whatever the mark. The head stays.
  * Refusals: 1, 5. Stack: 0 bytes. */

@@ -2,7 +2,8 @@
  * that a look back at an old entry leaves what is spent, that a refused call changes nothing, and that a head is refused with an area that was copied
  * too early. At the end a shift's entries are written as a volume, enciphered, deciphered and read, and their duty is worked out, under our rates and
  * under a refinery's own; strings that are no volumes are told apart: those that are only cut, and those that became hopeless; and the tank gauge's
- * recording of the same run is compared with the blender's. Last, checkpoints of the same run as the box's first one are told apart from others. */
+ * recording of the same run is compared with the blender's. Then checkpoints of the same run as the box's first one are told apart from others. Last,
+ * two benches run the same test load, and end with the same bytes. */
 #include <inttypes.h>
 #include <stdio.h>
 #include <stdlib.h>
@@ -276,6 +277,47 @@ static void same_run_or_not(const uint8_t *at_7, size_t at_7_bytes, const uint8_
     show_same_run("same run as the empty string", at_7, at_7_bytes, other, 0);
 }
 
+static const uint8_t bench_key[] = "key of the bench", bench_iv[] = "IV for the bench"; /* which encipher nothing else */
+
+/* Runs a test load, whatever the engine holds, says where it ends and how far it used the keystream, and writes the checkpoint there. */
+static size_t run_bench(const char *what, struct engine *engine, uint32_t seed, uint64_t count, uint8_t lent[HC_128_CHECKPOINT_BYTES])
+{
+    check("test load", hc_test_load(&engine->head, seed, count, HC_128, bench_key, 16, bench_iv, 16, engine->area, WORDS));
+    struct hc_count spent = hc_spent(&engine->head);
+    check("spent", spent.refusal);
+    printf("%s: position %" PRIu64 ", spent %" PRIu64 "\n", what, engine->head.position, spent.count);
+    return write_at(engine, engine->head.position, lent);
+}
+
+/* Two benches run the same test load, one on the box and one on the spare, and end with the same bytes. From another seed the spare ends elsewhere,
+ * and in the same run. */
+static void two_benches(void)
+{
+    static uint8_t first[HC_128_CHECKPOINT_BYTES], second[HC_128_CHECKPOINT_BYTES];
+    int differ = memcmp(&box.head, &spare.head, sizeof box.head) != 0 && memcmp(box.area, spare.area, sizeof box.area) != 0;
+    printf("two benches, whose heads and areas %s before the test load\n", differ ? "differ" : "are the same");
+    run_bench("six calls from seed 1", &box, 1, 6, first); /* five cipher calls over 823 bytes together, and a move to byte 3,560 */
+    size_t n = run_bench("1,000 calls from seed 1", &box, 1, HC_TEST_CALLS, first);
+    size_t m = run_bench("on the other bench", &spare, 1, HC_TEST_CALLS, second);
+    check_same("the other bench's head and area", &box, &spare, sizeof box);
+    printf("both checkpoints: %s\n", n == m && memcmp(first, second, n) == 0 ? "the same bytes" : "different bytes");
+    show_same_run("same run on both benches", first, n, second, m);
+    m = run_bench("1,000 calls from seed 2", &spare, 2, HC_TEST_CALLS, second);
+    printf("its checkpoint: %s\n", n == m && memcmp(first, second, n) == 0 ? "the same bytes" : "other bytes");
+    show_same_run("same run from seed 2", first, n, second, m);
+
+    /* Each refusal, in order: with six faults at once, and then with one fewer each time. */
+    before = spare;
+    printf("test loads with six faults, then one fewer each time, are refused with");
+    for (int faults = 6; faults > 0; faults--) {
+        uint64_t refusal = hc_test_load(&spare.head, faults > 5 ? 0 : 1, faults > 4 ? HC_TEST_CALLS + 1 : HC_TEST_CALLS, faults > 3 ? 3 : HC_128,
+                                        bench_key, faults > 2 ? 15 : 16, bench_iv, faults > 1 ? 15 : 16, spare.area, WORDS - 1);
+        check_same("head and area", &before, &spare, sizeof spare);
+        printf(" %" PRIu64, refusal);
+    }
+    printf(", and every byte stays\n");
+}
+
 int main(void)
 {
     const uint8_t key[] = "sixteen byte key", iv[] = "and a 16 byte IV";
@@ -352,6 +394,7 @@ int main(void)
 
     log_shift();
     same_run_or_not(checkpoint, written.length, key, iv);
+    two_benches();
     free(checkpoint);
     return 0;
 }

@@ -104,6 +104,18 @@ extern "C" {
     ) -> u64;
     pub fn hc_load(head: *mut HcHead, area: *mut u32, area_words: usize, string: *const u8, string_bytes: usize) -> HcWords;
     pub fn hc_same_run(first: *const u8, first_bytes: usize, second: *const u8, second_bytes: usize) -> HcYesOrNo;
+    pub fn hc_test_load(
+        head: *mut HcHead,
+        seed: u32,
+        count: u64,
+        code: u32,
+        key: *const u8,
+        key_bytes: usize,
+        iv: *const u8,
+        iv_bytes: usize,
+        area: *mut u32,
+        area_words: usize,
+    ) -> u64;
     pub fn hc_spent(head: *mut HcHead) -> HcCount;
     pub fn hc_write_volume(entries: *const u32, numbers: usize, lent: *mut u8, lent_bytes: usize) -> HcLength;
     pub fn hc_read_volume(volume: *const u8, volume_bytes: usize, entries: *mut u32, numbers: usize) -> HcCount;

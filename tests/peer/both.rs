@@ -5,12 +5,14 @@ use crate::archive::{self, HcCount, HcDuty, HcHead, HcLength, HcPart, HcRates, H
 use crate::calls::{self, Head};
 use crate::ciphers::{self, Cipher};
 use crate::comparison::{self as recordings, Found, Part, Recording, Why};
+use crate::count::Count;
 use crate::duty;
 use crate::lent::Lent;
 use crate::rates::{self, Rates};
 use crate::same_run::{self, Found as RunFound, Refused};
 use crate::soundness::{self, Soundness};
 use crate::tally::Tally;
+use crate::test_load::{self, Call};
 use crate::volume::{self, Fault};
 use std::cmp::Ordering;
 use std::fmt::{Debug, LowerHex};
@@ -227,6 +229,32 @@ fn fault_beside_load(returned: HcYesOrNo, [first, second]: [&[u8]; 2]) -> Option
     let HcYesOrNo { refusal, yes } = returned;
     ((refusal, yes) != (0, is_second as u64))
         .then(|| format!("archive: same run says {refusal} and {yes}; load, move and write give the second: {is_second}"))
+}
+
+/// Head and area of an engine of the archive's alone after a set up and the calls of these words, made one by one, none of which
+/// may be refused.
+fn made_by_archive(words: &[u32], code: u32, key: &[u8], iv: &[u8], area_words: usize) -> Result<(Head, Vec<u32>), String> {
+    let mut head = HcHead { code: 0, word: 0, position: 0, mark: 0 };
+    let mut area = vec![0; area_words];
+    let place = area.as_mut_ptr();
+    let refusal =
+        unsafe { archive::hc_set_up(&mut head, code, key.as_ptr(), key.len(), iv.as_ptr(), iv.len(), place, area_words) };
+    plain(refusal).map_err(|refusal| format!("archive: test load accepts, set up refuses with {refusal}"))?;
+    for (number, word) in words.iter().enumerate() {
+        let call = Call::of(*word);
+        let refusal = match call {
+            Call::MoveTo(byte) => {
+                let distance = test_load::distance(head.position, byte);
+                unsafe { archive::hc_move(&mut head, place, area_words, distance) }
+            }
+            Call::Cipher(count) => {
+                let mut zeros = vec![0; count];
+                unsafe { archive::hc_cipher(&mut head, place, area_words, zeros.as_mut_ptr(), count) }
+            }
+        };
+        plain(refusal).map_err(|refusal| format!("archive: generated call {number}, {call:?}, is refused with {refusal}"))?;
+    }
+    Ok((Head { code: head.code, word: head.word, position: head.position, mark: head.mark }, area))
 }
 
 /// How two parts of one memory lie.
@@ -659,6 +687,97 @@ impl<'t> Both<'t> {
             }
         }
         Ok(result)
+    }
+
+    /// Test load. Where it is accepted, position and mark must be those counted from the words, and set up, moves and cipher calls
+    /// that the archive makes one by one must leave the same head and area.
+    pub fn test_load(&mut self, words: usize, seed: u32, count: u64, code: u32, key: &[u8], iv: &[u8]) -> Agreed<()> {
+        let lent = format!("key {}, IV {}, area {words} words", short(key), short(iv));
+        let mut comparison = self.begin(format!("test load, seed {seed:#x}, count {count}, code {code:#x}, {lent}"));
+        let before = self.head;
+        let had_false_word = self.has_false_word();
+        let as_set_up = calls::set_up_is_good(code, key, iv, words);
+        let mut lent_key = self.lend(key);
+        let mut lent_iv = self.lend(iv);
+        let head = self.head_pointer();
+        let area = self.archive_area.pointer();
+        let refusal = unsafe {
+            let (key_pointer, iv_pointer) = (lent_key.pointer(), lent_iv.pointer());
+            archive::hc_test_load(head, seed, count, code, key_pointer, key.len(), iv_pointer, iv.len(), area, words)
+        };
+        let result = test_load::run(&mut self.head, seed, count, code, key, iv, &mut self.area[..words])
+            .map_err(|text| format!("{}\n  {text}", comparison.call))?;
+        comparison.equal("answer", plain(refusal), result);
+        comparison.equal_lists("key", lent_key.content(), key);
+        comparison.equal_lists("IV", lent_iv.content(), iv);
+        comparison.guards("key", &lent_key);
+        comparison.guards("IV", &lent_iv);
+        if result == Ok(()) {
+            let generated = test_load::words(seed, count);
+            let mut counted = Count::default();
+            counted.test_load(&generated);
+            let [_, position, mark] = self.archive_head.content() else { unreachable!("a head has 24 bytes") };
+            comparison.equal("position counted from the words", *position, counted.position);
+            comparison.equal("mark counted from the words", *mark, counted.farthest);
+            match made_by_archive(&generated, code, key, iv, words) {
+                Ok((head, area)) => {
+                    let left = bytes_of_numbers(self.archive_head.content());
+                    comparison.equal_bytes("head after the calls one by one", &left, &bytes_of_head(head));
+                    comparison.equal_lists("area after the calls one by one", &self.archive_area.content()[..words], &area);
+                }
+                Err(text) => comparison.differences.push(text),
+            }
+        }
+        self.end(comparison)?;
+        self.count_test_load(before, had_false_word, (seed, count, code), as_set_up, result);
+        Ok(result)
+    }
+
+    /// Counts a test load.
+    fn count_test_load(
+        &mut self,
+        before: Head,
+        had_false_word: bool,
+        (seed, count, code): (u32, u64, u32),
+        as_set_up: Result<Cipher, u64>,
+        result: Result<(), u64>,
+    ) {
+        let cipher = Cipher::of_code(code);
+        let after = match result {
+            Err(17) if count > test_load::MOST_CALLS => Some(18),
+            Err(17 | 18) => as_set_up.err(),
+            _ => None,
+        };
+        let answer = match (result, after) {
+            (Err(refusal), Some(after)) => format!("{refusal} before {after}"),
+            (Err(refusal @ (17 | 18)), None) => format!("{refusal} alone"),
+            _ => answer(&result),
+        };
+        self.tally.call("test load", &answer, cipher);
+        let Head { position, mark, .. } = self.head;
+        let mut special = |holds: bool, what: &str| {
+            if holds {
+                self.tally.special(&format!("test load{what}"), cipher);
+            }
+        };
+        special(result == Err(18) && after.is_none() && count == test_load::MOST_CALLS + 1, ", one call too many");
+        if result.is_err() {
+            return;
+        }
+        special(had_false_word, " over a false word");
+        special(before.mark != 0, " over another mark than 0");
+        special(Cipher::of_code(before.code).is_some_and(|had| Some(had) != cipher), " where the head had another cipher");
+        special(before.position > calls::LIMIT, " where the head was over the limit");
+        special(count == 0, " of no calls");
+        special(count == test_load::MOST_CALLS, " of 1,000 calls");
+        let Some(last) = test_load::words(seed, count).pop() else { return };
+        special(mark > position, ", mark larger than the position");
+        special(mark == position, ", mark equal to the position");
+        special(mark < position, ", mark smaller than the position");
+        match Call::of(last) {
+            Call::MoveTo(_) => special(true, " that ends with a move"),
+            Call::Cipher(_) => special(true, " that ends with a cipher call"),
+        }
     }
 
     pub fn spent(&mut self) -> Agreed<u64> {

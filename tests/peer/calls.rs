@@ -1,8 +1,8 @@
 //! The eight calls of an engine and its checkpoints: the refusals in their order, then what an accepted call does. Document 01
 //! states seven of them, requests (a), (b) and (g) of document 02 change them, and the C header states the eighth, checkpoint
-//! length. The three calls of request (d) are in volume.rs, the one of request (e) in duty.rs, the one of request (j) in
-//! soundness.rs, the two of request (k) in comparison.rs, the one of request (m) in same_run.rs and the two of request (n) in
-//! rates.rs.
+//! length. The three calls of request (d) are in volume.rs, the one of request (e) in duty.rs, the one of request (h) in
+//! test_load.rs, the one of request (j) in soundness.rs, the two of request (k) in comparison.rs, the one of request (m) in
+//! same_run.rs and the two of request (n) in rates.rs.
 
 use crate::ciphers::{self, Cipher};
 
@@ -87,11 +87,17 @@ pub fn engine_is_good(head: &Head, area: &[u32]) -> Result<Cipher, u64> {
     Ok(cipher)
 }
 
-/// Set up.
-pub fn set_up(head: &mut Head, code: u32, key: &[u8], iv: &[u8], area: &mut [u32]) -> Result<(), u64> {
+/// The refusals of set up.
+pub fn set_up_is_good(code: u32, key: &[u8], iv: &[u8], area_words: usize) -> Result<Cipher, u64> {
     let cipher = code_is_good(code)?;
     lengths_are_good(cipher, key, iv)?;
-    area_is_good(cipher, area.len())?;
+    area_is_good(cipher, area_words)?;
+    Ok(cipher)
+}
+
+/// Set up.
+pub fn set_up(head: &mut Head, code: u32, key: &[u8], iv: &[u8], area: &mut [u32]) -> Result<(), u64> {
+    let cipher = set_up_is_good(code, key, iv, area.len())?;
     area.copy_from_slice(&ciphers::set_up(cipher, &ciphers::words_of_bytes(key), &ciphers::words_of_bytes(iv)));
     *head = Head { code, word: 0, position: 0, mark: 0 };
     Ok(())

@@ -1,11 +1,12 @@
-//! How far the cipher calls of a list reached, encipherings of volumes among them, counted from the calls and their answers
-//! alone, without head and tables.
+//! How far the cipher calls of a list reached, encipherings of volumes and those of test loads among them, counted from the calls
+//! and their answers alone, without head and tables.
 
 #[derive(Default)]
 pub struct Count {
     /// Where the last accepted call ended.
     pub position: u64,
-    /// The farthest end of a cipher call of one byte or more, or of an enciphering, since the last set up or load.
+    /// The farthest end of a cipher call of one byte or more, or of an enciphering, since the last set up or load. A test load
+    /// begins with a set up.
     pub farthest: u64,
 }
 
@@ -40,5 +41,18 @@ impl Count {
     /// An accepted move.
     pub fn move_by(&mut self, distance: i64) {
         self.position = (self.position as i64 + distance) as u64;
+    }
+
+    /// An accepted test load with these words. The seed is not among them.
+    pub fn test_load(&mut self, words: &[u32]) {
+        self.set_up();
+        for word in words {
+            let half = *word as usize / 2;
+            if word % 2 == 0 {
+                self.position = (half % 4_096) as u64;
+            } else {
+                self.cipher(half % 257);
+            }
+        }
     }
 }

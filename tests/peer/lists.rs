@@ -9,6 +9,7 @@ use crate::marks::MARK_EDGES;
 use crate::random::Random;
 use crate::random_volumes::{self, any_entries};
 use crate::tally::Tally;
+use crate::test_load;
 use crate::volume;
 use std::cmp::Ordering;
 
@@ -276,7 +277,7 @@ impl List<'_> {
     }
 
     fn any_call(&mut self) -> Result<(), String> {
-        match self.random.below(140) {
+        match self.random.below(150) {
             0..=9 => self.set_up(),
             10..=34 => {
                 let length = self.cipher_length();
@@ -289,7 +290,8 @@ impl List<'_> {
             95..=109 => self.spent(),
             110..=119 => self.checkpoint_length(),
             120..=135 => self.encipher_volume(),
-            _ => self.read_volume(),
+            136..=139 => self.read_volume(),
+            _ => self.test_load(),
         }
     }
 
@@ -303,6 +305,45 @@ impl List<'_> {
         let answer = self.both.set_up(words, code, &key, &iv)?;
         if let (Ok(()), Some(count)) = (answer, &mut self.count) {
             count.set_up();
+        }
+        Ok(())
+    }
+
+    /// A seed, mostly any and sometimes 0 or at an edge.
+    fn test_seed(&mut self) -> u32 {
+        let any = self.random.next() as u32;
+        match self.random.below(12) {
+            0..=1 => 0,
+            2 => self.random.pick(&[1, 2, 3, 1 << 31, u32::MAX]),
+            3 => 1 << self.random.below(32),
+            _ => any,
+        }
+    }
+
+    /// A count of calls: mostly small, sometimes up to the most, and sometimes over it.
+    fn test_count(&mut self) -> u64 {
+        match self.random.below(24) {
+            0..=1 => 0,
+            2..=8 => self.random.between(1, 6),
+            9..=15 => self.random.between(7, 60),
+            16 => self.random.between(61, 998),
+            17 => self.random.pick(&[999, 1_000]),
+            18..=20 => 1_001,
+            21..=22 => self.random.pick(&[1_002, 1 << 16, 1 << 32, (1 << 32) + 1, (1 << 32) + 1_000, 1 << 63, u64::MAX]),
+            _ => 1_001 + (self.random.next() >> self.random.between(1, 63)),
+        }
+    }
+
+    /// A test load, which is a set up and its calls for the list's own count.
+    fn test_load(&mut self) -> Result<(), String> {
+        let (seed, count) = (self.test_seed(), self.test_count());
+        let code = if self.random.once_in(8) { any_code(&mut self.random) } else { self.random.pick(&[1, 2]) };
+        let (key_length, iv_length) = (self.key_length(code), self.key_length(code));
+        let (key, iv) = (self.random.bytes(key_length), self.random.bytes(iv_length));
+        let words = self.words(code);
+        let answer = self.both.test_load(words, seed, count, code, &key, &iv)?;
+        if let (Ok(()), Some(own)) = (answer, &mut self.count) {
+            own.test_load(&test_load::words(seed, count));
         }
         Ok(())
     }

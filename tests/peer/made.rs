@@ -1,7 +1,7 @@
 //! Cases made by hand, with the answer that document 01, request (a) or (g) of document 02 or the C header gives for each. Those
-//! of request (b) are in marks.rs, those of (d) in volumes.rs, those of (e) in duties.rs, those of (f) in effects.rs, those of (j)
-//! in soundnesses.rs, those of (k) in comparisons.rs, those of (m) in same_runs.rs and those of (n) in rate_tables.rs and
-//! rate_duties.rs.
+//! of request (b) are in marks.rs, those of (d) in volumes.rs, those of (e) in duties.rs, those of (f) in effects.rs, those of (h)
+//! in test_loads.rs, those of (j) in soundnesses.rs, those of (k) in comparisons.rs, those of (m) in same_runs.rs and those of (n)
+//! in rate_tables.rs and rate_duties.rs.
 
 use crate::both::{Agreed, Both};
 use crate::calls::{self, Head, FRESH, LIMIT};
@@ -16,6 +16,7 @@ use crate::rate_tables;
 use crate::same_runs;
 use crate::soundnesses;
 use crate::tally::Tally;
+use crate::test_loads;
 use crate::vectors;
 use crate::volumes;
 use std::fmt::Debug;
@@ -696,5 +697,6 @@ pub fn run(seed: u64, tally: &mut Tally) -> Result<(), String> {
     rate_duties::run(tally)?;
     soundnesses::run(tally)?;
     comparisons::run(tally)?;
-    same_runs::run(tally)
+    same_runs::run(tally)?;
+    test_loads::run(&mut random, tally)
 }

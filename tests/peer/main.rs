@@ -29,6 +29,8 @@ mod same_runs;
 mod soundness;
 mod soundnesses;
 mod tally;
+mod test_load;
+mod test_loads;
 mod vectors;
 mod volume;
 mod volumes;

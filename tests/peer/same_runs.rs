@@ -30,10 +30,10 @@ impl Is {
 
 /// A cipher with a key and an IV.
 #[derive(Clone, PartialEq)]
-struct Run {
-    cipher: Cipher,
-    key: Vec<u8>,
-    iv: Vec<u8>,
+pub struct Run {
+    pub cipher: Cipher,
+    pub key: Vec<u8>,
+    pub iv: Vec<u8>,
 }
 
 /// Positions at the first words, on both sides of each change of a number's bytes and of the ends of turns, with their bytes.
@@ -112,14 +112,14 @@ const LISTS: [(&[Call], u64); 17] = [
 
 impl Run {
     /// The tables at a position.
-    fn tables(&self, position: u64) -> Vec<u32> {
+    pub fn tables(&self, position: u64) -> Vec<u32> {
         let mut area = ciphers::set_up(self.cipher, &ciphers::words_of_bytes(&self.key), &ciphers::words_of_bytes(&self.iv));
         ciphers::steps_forward(self.cipher, &mut area, 0, calls::steps_at(position));
         area
     }
 
     /// The checkpoint at a position.
-    fn at(&self, position: u64) -> Vec<u8> {
+    pub fn at(&self, position: u64) -> Vec<u8> {
         calls::checkpoint(self.cipher, position, &self.tables(position))
     }
 
@@ -138,19 +138,19 @@ impl Run {
 }
 
 /// A run of a cipher whose key bytes count up from one number, and whose IV bytes from another.
-fn counting(cipher: Cipher, key: u8, iv: u8) -> Run {
+pub fn counting(cipher: Cipher, key: u8, iv: u8) -> Run {
     let bytes = cipher.key_bytes() as u8;
     Run { cipher, key: (key..key + bytes).collect(), iv: (iv..iv + bytes).collect() }
 }
 
 /// A run whose key bytes are all alike, and whose IV bytes are, too.
-fn alike(cipher: Cipher, key: u8, iv: u8) -> Run {
+pub fn alike(cipher: Cipher, key: u8, iv: u8) -> Run {
     let bytes = cipher.key_bytes();
     Run { cipher, key: vec![key; bytes], iv: vec![iv; bytes] }
 }
 
 /// The other cipher.
-fn other_cipher(cipher: Cipher) -> Cipher {
+pub fn other_cipher(cipher: Cipher) -> Cipher {
     match cipher {
         Cipher::Hc128 => Cipher::Hc256,
         Cipher::Hc256 => Cipher::Hc128,

@@ -185,8 +185,29 @@ const SAME_RUN: [(&str, Where); 55] = [
     ("23", Ciphers),
 ];
 
+/// The answers for a test load: accepted, refused by set up, and refused with 17 or 18, alone or where another refusal would have
+/// followed.
+const TEST_LOAD: [(&str, Where); 16] = [
+    ("accepted", Ciphers),
+    ("17 alone", Ciphers),
+    ("17 before 18", All),
+    ("17 before 1", Neither),
+    ("17 before 2", Ciphers),
+    ("17 before 3", Ciphers),
+    ("17 before 4", Ciphers),
+    ("18 alone", Ciphers),
+    ("18 before 1", Neither),
+    ("18 before 2", Ciphers),
+    ("18 before 3", Ciphers),
+    ("18 before 4", Ciphers),
+    ("1", Neither),
+    ("2", Ciphers),
+    ("3", Ciphers),
+    ("4", Ciphers),
+];
+
 /// For each call the answers that it must give.
-const EXPECTED: [(&str, &[(&str, Where)]); 21] = [
+const EXPECTED: [(&str, &[(&str, Where)]); 22] = [
     ("set up", &[("accepted", Ciphers), ("1", Neither), ("2", Ciphers), ("3", Ciphers), ("4", Ciphers)]),
     ("cipher", &[("accepted", Ciphers), ("1", Neither), ("4", Ciphers), ("5", Ciphers), ("13", Ciphers), ("6", Ciphers)]),
     (
@@ -223,6 +244,7 @@ const EXPECTED: [(&str, &[(&str, Where)]); 21] = [
             ("12", Ciphers),
         ],
     ),
+    ("test load", &TEST_LOAD),
     ("spent", &[("accepted", Ciphers), ("1", Neither), ("5", Ciphers)]),
     (
         "write volume",
@@ -267,7 +289,7 @@ const EXPECTED: [(&str, &[(&str, Where)]); 21] = [
 ];
 
 /// Calls of special interest that must occur for both ciphers.
-const SPECIAL: [&str; 86] = [
+const SPECIAL: [&str; 98] = [
     "cipher of no bytes",
     "cipher from inside a word",
     "cipher past the last word of a table",
@@ -331,6 +353,18 @@ const SPECIAL: [&str; 86] = [
     "encipher volume that ends at the mark",
     "encipher volume from behind the mark, which rises",
     "encipher volume with a mark over the limit",
+    "test load of no calls",
+    "test load of 1,000 calls",
+    "test load, one call too many",
+    "test load, mark larger than the position",
+    "test load, mark equal to the position",
+    "test load, mark smaller than the position",
+    "test load that ends with a move",
+    "test load that ends with a cipher call",
+    "test load over a false word",
+    "test load over another mark than 0",
+    "test load where the head had another cipher",
+    "test load where the head was over the limit",
     "same run, yes, one position",
     "same run, yes, the first later",
     "same run, yes, the second later",

@@ -3,3 +3,4 @@ pub mod Checks
 pub mod Ends
 pub mod Beginnings
 pub mod Undo
+pub mod Shows

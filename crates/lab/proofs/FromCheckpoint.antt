@@ -6,7 +6,7 @@ use Prim.Native.Nat.{ℕ, zero, suc, _+_, _≤_, max}
 use native.Mathlib.Nat.{add-zero, add-suc, suc-add, zero-add, add-assoc, max-zero, max-le, max-eq-left, max-eq-right}
 use native.Mathlib.Omega.{arith}
 use borrow.Author.Tests.{eq-eqb, ne-eqb, le-leb}
-use lib.IntN.{pos, negℤ, _-ℤ_, +ℤ-invr}
+use lib.IntN.{pos, negℤ, +ℤ-invr}
 use lib.ListN.{length, length-append}
 use Rattle.laws.specs.Iterate.{forward}
 use Rattle.laws.proofs.Iterate.{forward-none, forward-first}
@@ -39,12 +39,14 @@ use Rattle.engine.specs.Calls.{Engine, engineOf, engineAt, headReady, setUp, se
 use Rattle.engine.proofs.Calls.{write-done}
 use Rattle.theorems.specs.Account.{Four, IsFour, atPosition, Checkpoint, tablesOf, engineOfFour, checkpointOf}
 use Rattle.laws.proofs.Results.{no-refusal, accepted-one, after-line}
-use Rattle.theorems.proofs.Conditions.{accepted-only, word-shows, word-accepted, load-passed, move-accepted, recover-finds}
+use Rattle.conditions.proofs.Shows.{accepted-only, word-shows, word-accepted}
+use Rattle.theorems.proofs.Conditions.{load-passed, move-accepted, recover-finds}
 use Rattle.theorems.proofs.Checkpoints.{loadedOf, load-checkpoint}
 use Rattle.theorems.proofs.Twice.{ciphered-twice}
 use Rattle.theorems.proofs.HeadMark.{head-mark}
-use Rattle.theorems.proofs.Tables.{ends-at, moved-area, four-sized, four-true, four-moved, undo-finds}
-use Rattle.lab.specs.Tasks.{cipherOf, loadFresh, moveTo, loadAndMove, openCheckpoint, setUpAt, thenWrite, writeAt, rewriteAt, recoverFrom}
+use Rattle.theorems.proofs.GeneratedCalls.{moved-four}
+use Rattle.theorems.proofs.Tables.{moved-area, four-sized, four-true, four-moved, undo-finds}
+use Rattle.lab.specs.Tasks.{cipherOf, loadFresh, loadAndMove, openCheckpoint, setUpAt, thenWrite, writeAt, rewriteAt, recoverFrom}
 use Rattle.lab.specs.FromCheckpoint.{cipherAfter, streamed, engineStreamed, Spends, checkpointPut, FromCheckpoint}
 use Rattle.lab.proofs.Advance.{load-not-0}
 
@@ -304,14 +306,6 @@ recovers string area key iv f h z kn vn =
     rw (loaded-accepted string area (loadedOf f) (load-checkpoint string (length area) f h z), finds, undo-four f (h .is-four))
 
 -- ── writing ──
-
--- from the engine of a four to its engine at another position
-moved-four : (f : Four) (mark q : ℕ) → IsFour f → q ≤ limit
-    → moveTo q (engineOfFour f mark) ≡ record { refusal = 0; value = engineOfFour (atPosition f q) mark }
-unfolding moveTo moveCall move
-moved-four f mark q h l =
-    let p = f .position in
-    rw (move-accepted _ (f .cipher) p (pos q -ℤ pos p) q (four-true f (tablesOf f) _ h refl refl) (ends-at p q) l, four-moved f q h)
 
 write-four : (f : Four) (mark : ℕ) (lent : List ℕ) → IsFour f → lengthOf (f .cipher) (f .position) ≤ length lent
     → writeCall (engineOfFour f mark .head) (tablesOf f) lent

@@ -6,7 +6,7 @@ use mathlib.Core.List.{List, [], _∷_}
 use mathlib.Core.Option.{Option, none, some}
 use Prim.Native.Nat.{ℕ, _+_, _-_, _≤_}
 use lib.Dec.{eqb, ltb}
-use lib.IntN.{ℤ, pos, negsuc, negℤ, _-ℤ_}
+use lib.IntN.{ℤ, pos, negsuc, negℤ}
 use lib.ListN.{length, take, drop}
 use Rattle.varint.specs.Number.{Reading, is, ended, malformed, readNumber}
 use Rattle.cipher.specs.declared.Cipher.{Cipher}
@@ -18,6 +18,7 @@ use Rattle.laws.specs.Result.{Outcome}
 use Rattle.conditions.specs.Limit.{limit}
 use Rattle.engine.specs.Head.{freshHead}
 use Rattle.engine.specs.Calls.{Engine, Written, Recovered, setUpCall, moveCall, writeCall, recoverCall, loadCall}
+use Rattle.move_to.specs.MoveTo.{moveTo}
 
 -- the cipher whose area a checkpoint is loaded into: HC-128 where its first byte is that cipher's code, else HC-256
 unfoldable pub cipherOf : List ℕ → Cipher
@@ -58,10 +59,6 @@ andThen first second kept =
 unfoldable pub loadFresh : (string area : List ℕ) → Outcome Engine
 loadFresh string area =
     record { refusal = loadCall freshHead string area .refusal; value = loadCall freshHead string area .value .engine }
-
--- move from where the engine is to a position
-unfoldable pub moveTo : (position : ℕ) → Engine → Outcome Engine
-moveTo position e = moveCall (e .head) (e .area) (pos position -ℤ pos (e .head .position))
 
 -- load a checkpoint and move to a position
 unfoldable pub loadAndMove : (string area : List ℕ) (position : ℕ) → Outcome Engine

@@ -167,22 +167,6 @@ pub fn cipher_next(head: Head, area: &mut [u32], bytes: &mut [u8]) -> Done
     head.cipher(area, bytes)
 }
 
-// Moves an engine to a position.
-pub fn move_to(head: Head, area: &mut [u32], position: u64) -> Done
-    ensures { λ r. ⌜
-        Answers.done (r .refusal) (r .head) (now (area .exit))
-        ≡ Tasks.moveTo position (Calls.engineOf head (now (area .entry))) ⌝ }
-{
-    let here = head.position;
-    if Head::LIMIT < here {
-        return head.move_by(area, i64::MAX);
-    }
-    if Head::LIMIT < position {
-        return head.move_by(area, i64::MAX);
-    }
-    head.move_by(area, position as i64 - here as i64)
-}
-
 // Loads a checkpoint, from a fresh head.
 fn load_fresh(string: &[u8], area: &mut [u32]) -> Done
     ensures { λ r. ⌜
@@ -210,7 +194,7 @@ pub fn load_and_move(string: &[u8], area: &mut [u32], position: u64) -> Done
     if refusal != 0 {
         return done;
     }
-    move_to(head, area, position)
+    move_to::move_to(head, area, position)
 }
 
 // Loads a checkpoint and moves back to position 0.
@@ -237,7 +221,7 @@ pub fn set_up_at(code: u32, key: &[u8], iv: &[u8], area: &mut [u32], position: u
             head: start,
         };
     }
-    move_to(start, area, position)
+    move_to::move_to(start, area, position)
 }
 
 // Puts the checkpoint at the start of the lent bytes, on what the calls before left, where they were accepted.

@@ -23,13 +23,18 @@ use Rattle.engine.specs.Head.{headAt, markAfter}
 use Rattle.conditions.specs.Conditions.{setUpCheck, headCheck, cipherCheck, moveCheck, recoverCheck, Contents, loadCheck}
 use Rattle.engine.specs.Calls.{Engine, engineOf, engineAt, headReady, Ciphered, Written, Recovered, Loaded, Counted, setUp, setUpCall, cipher, cipherCall, encipherVolume, encipherVolumeCall, move, moveCall, write, writeCall, recover, recoverCall, load, loadCall, spent, spentCall}
 use Rattle.conditions.proofs.Conditions.{ready-unknown, word-not-ready}
-use Rattle.theorems.specs.Account.{Call, call-set-up, call-cipher, call-encipher-volume, call-move, call-write, call-recover, call-load, call-spent, Given, AllGiven, called, run, Four, IsFour, Account, empty, holds, accountCode, accountPosition, accountReady, at, unless-refused, feed, account, engineAfter, accountAfter, tablesOf}
-use Rattle.theorems.specs.Farthest.{withEnd, reachedBy, reachedSince, largest}
+use Rattle.theorems.specs.Account.{Call, call-set-up, call-cipher, call-encipher-volume, call-move, call-write, call-recover, call-load, call-spent, call-test-load, Given, AllGiven, called, run, Four, IsFour, Account, empty, holds, accountCode, accountPosition, accountReady, atPosition, at, unless-refused, atStart, feedGenerated, feed, account, engineAfter, accountAfter, tablesOf}
+use Rattle.test_load.specs.Words.{generatedCalls}
+use Rattle.test_load.specs.TestLoad.{runCalls, seedAndCount, testLoadCall}
+use Rattle.theorems.specs.Farthest.{withEnd, reachedByGenerated, reachedBy, reachedSince, largest}
+use Rattle.theorems.specs.TestLoad.{endOfCalls}
 use Rattle.laws.proofs.Results.{no-refusal, outcome-same, accepted-one, after-first, after-line}
 use Rattle.theorems.proofs.Tables.{four-sized, four-ready, four-true, four-moved}
-use Rattle.theorems.proofs.Conditions.{no-code-0, ready-shows, set-up-shows, cipher-shows, move-shows}
+use Rattle.conditions.proofs.Shows.{ready-shows}
+use Rattle.theorems.proofs.Conditions.{no-code-0, set-up-shows, cipher-shows, move-shows}
 use Rattle.theorems.proofs.Checkpoints.{fourOf, load-shows}
 use Rattle.theorems.proofs.Writes.{write-shows}
+use Rattle.theorems.proofs.GeneratedCalls.{seed-shows, load-lines, set-up-four, stay, end-within, reach-within, moved-is, runs-to, fed-to, reached-to}
 
 -- the head of an account with a mark
 abbrev pub accountWord : Account → ℕ
@@ -158,10 +163,10 @@ module _ (start : List ℕ) where
       (w b)
 
   -- the mark that a cipher call leaves
-  mark-reached : (reached bytes : List ℕ) (end : ℕ) → markAfter (largest reached) end (length bytes) ≡ largest (withEnd bytes end reached)
+  mark-reached : (reached : List ℕ) (n end : ℕ) → markAfter (largest reached) end n ≡ largest (withEnd n end reached)
   unfolding markAfter largest
-  mark-reached reached [] end = refl
-  mark-reached reached (b ∷ bytes) end = refl
+  mark-reached reached zero end = refl
+  mark-reached reached (suc n) end = refl
 
   mark-within : (mark end n : ℕ) → end ≤ limit → mark ≤ limit → markAfter mark end n ≤ limit
   unfolding markAfter
@@ -183,7 +188,7 @@ module _ (start : List ℕ) where
   cipher-agrees : (r : Result (List Entry)) (bytes : List ℕ) (a : Account) (reached s : List ℕ) → TablesAre start a s → ReachedIs a reached
       → let check = r >> cipherCheck (accountReady (length s) a) (accountPosition a) (length bytes) in
       let end = accountPosition a + length bytes in
-      Agrees start (length s) (unless-refused a check (λ c. at a end)) (unless-refused reached check (λ c. withEnd bytes end reached))
+      Agrees start (length s) (unless-refused a check (λ c. at a end)) (unless-refused reached check (λ c. withEnd (length bytes) end reached))
       (outcome (record { engine = engineIn a reached s; bytes = bytes }) (r >> cipher (headOf a (largest reached)) s bytes) .value .engine)
   unfolding cipher
   cipher-agrees (refused n) bytes a reached s t m = same a reached s t m
@@ -194,11 +199,37 @@ module _ (start : List ℕ) where
       (ap (λ (b : Result Cipher). cipherCheck b position (length bytes)) (sym (same-begun a (largest reached) s t))) (same a reached s t m) λ c e.
       let r = cipher-shows begun position (length bytes) c e in
       let end = position + length bytes in
-      moved-agrees a s c end reached _ _ t m (r .0) (r .1) (mark-reached reached bytes end) (mark-within (largest reached) end (length bytes) (r .1))
+      moved-agrees a s c end reached _ _ t m (r .0) (r .1) (mark-reached reached (length bytes) end) (mark-within (largest reached) end (length bytes) (r .1))
+
+  test-load-agrees : (seed count code : ℕ) (key iv s : List ℕ) (c : Cipher) → AllBytes key → AllBytes iv
+      → (seedAndCount seed count >> setUpCheck code (length key) (length iv) (length s)) ≡ accepted c
+      → let calls = generatedCalls seed count in
+      Agrees start (length s) (feedGenerated (length s) (holds (atStart c key iv)) calls)
+      (reachedByGenerated (length s) (holds (atStart c key iv)) (0 ∷ []) calls)
+      (runCalls calls (engineAt code c 0 0 (SetUp.setUp c key iv)))
+  unfolding largest
+  test-load-agrees seed count code key iv s c kb vb e =
+      let t = seed-shows seed count _ e in
+      let r = set-up-shows code (length key) (length iv) (length s) c (t .2) in
+      let pair : Pair c key iv = record { key-long = r .key-long; iv-long = r .iv-long; key-bytes = kb; iv-bytes = vb } in
+      let f = atStart c key iv in
+      let h : IsFour f = record { pair = pair; within = omega arith } in
+      let calls = generatedCalls seed count in
+      let stays = stay seed count (t .1) in
+      let q = endOfCalls 0 calls in
+      let ran = ap (runCalls calls) (set-up-four code c key iv (r .code-is)) ∙ runs-to calls f 0 h stays in
+      rw (fed-to (length s) calls f h (r .sized) stays, ran)
+      (tables-agree (atPosition f q) (codeOf c) c (tablesOf (atPosition f q)) (length s) _ _ (moved-is f q h (end-within calls 0 (omega arith) stays))
+      refl
+      refl
+      refl
+      (r .sized)
+      (sym (reached-to (length s) calls f (0 ∷ []) h (r .sized) stays))
+      (max-le (omega arith) (reach-within calls 0 stays)))
 
   agree-at : (call : Call) (a : Account) (reached s : List ℕ) → Given call → TablesAre start a s → ReachedIs a reached
       → Agrees start (length s) (feed (length s) a call) (reachedBy (length s) a reached call) (called (engineIn a reached s) call)
-  unfolding feed reachedBy called setUpCall setUp cipherCall encipherVolumeCall encipherVolume moveCall move loadCall load
+  unfolding feed reachedBy called testLoadCall setUpCall setUp cipherCall encipherVolumeCall encipherVolume moveCall move loadCall load
   agree-at (call-set-up code key iv) a reached s g t m =
       by-answer (Agrees start (length s)) a _ reached _ _ _ (λ (e : Engine). e) (setUpCheck code (length key) (length iv) (length s)) _ refl
       (same a reached s t m) λ c e. set-up-agrees code key iv s c (g .0) (g .1) e
@@ -217,6 +248,15 @@ module _ (start : List ℕ) where
       load-agrees string s l g e
   agree-at (call-write lent) a reached s g t m = rw (write-engine (headOf a (largest reached)) s lent) (same a reached s t m)
   agree-at (call-recover key iv) a reached s g t m = rw (recover-engine (headOf a (largest reached)) s key iv) (same a reached s t m)
+  agree-at (call-test-load seed count code key iv) a reached s g t m =
+      subst
+      (λ (x : Result Engine).
+      Agrees start (length s) (feed (length s) a (call-test-load seed count code key iv)) (reachedBy (length s) a reached (call-test-load seed count code key iv))
+      (outcome (engineIn a reached s) x .value))
+      (sym (load-lines seed count code key iv s))
+      (by-answer (Agrees start (length s)) a _ reached _ _ _ (λ (e : Engine). e)
+      (seedAndCount seed count >> setUpCheck code (length key) (length iv) (length s)) _ refl
+      (same a reached s t m) λ c e. test-load-agrees seed count code key iv s c (g .0) (g .1) e)
   agree-at call-spent a reached s g t m = rw (spent-head (headOf a (largest reached))) (same a reached s t m)
 
   agree-call : (call : Call) (size : ℕ) (a : Account) (reached : List ℕ) (e : Engine) → Given call → Agrees start size a reached e

@@ -22,7 +22,8 @@ use Rattle.engine.specs.Calls.{headReady, Written, write, checkpointLength, che
 use Rattle.theorems.specs.Demand3.{given}
 use Rattle.theorems.specs.CheckpointLength.{CheckpointLength}
 use Rattle.laws.proofs.Results.{no-refusal, accepted-one, after-line}
-use Rattle.theorems.proofs.Conditions.{word-shows, word-accepted, head-shows}
+use Rattle.conditions.proofs.Shows.{word-shows, word-accepted}
+use Rattle.theorems.proofs.Conditions.{head-shows}
 use Rattle.theorems.proofs.Writes.{write-shows, write-enough, write-too-few, write-iff, write-8-iff}
 
 returned : (h : Head) (area lent : List ℕ) (w : Written) (c : Cipher)

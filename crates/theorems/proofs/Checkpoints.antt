@@ -21,7 +21,8 @@ use Rattle.conditions.specs.Conditions.{undoAt, foundOr12, Contents, loadCheck}
 use Rattle.theorems.specs.Account.{Four, tablesOf, checkpointOf, Checkpoint}
 use Rattle.laws.proofs.Results.{no-refusal, accepted-one, after-line}
 use Rattle.theorems.proofs.Tables.{undo-finds, found-have, four-area}
-use Rattle.theorems.proofs.Conditions.{accepted-only, found-shows, LoadPassed, load-finds, load-passed}
+use Rattle.conditions.proofs.Shows.{accepted-only}
+use Rattle.theorems.proofs.Conditions.{found-shows, LoadPassed, load-finds, load-passed}
 
 abbrev pub fourOf : Contents → Four
 fourOf l = record { cipher = l .cipher; key = l .key; iv = l .iv; position = l .position }

@@ -1,12 +1,12 @@
 -- Every refusal of a call is one of its own numbers, since each line of its conditions has one of them; and a refused call leaves what was there.
 -- Assumes nothing.
-use mathlib.Core.Bool.{false}
+use mathlib.Core.Bool.{false, not}
 use mathlib.Core.List.{List, [], _∷_}
 use Prim.Native.Nat.{ℕ, _+_, _*_, _%_}
 use lib.Dec.{eqb, leb}
 use lib.IntN.{pos, _+ℤ_}
 use lib.ListN.{length}
-use Rattle.cipher.specs.Numbers.{byCode, codeOf, areaLength, keyLength, ivLength}
+use Rattle.cipher.specs.Numbers.{codeOf, areaLength, keyLength, ivLength}
 use Rattle.volume.specs.Volume.{inRange, countRange, entriesInRange, volumeString, entriesOf}
 use Rattle.volume.specs.Calls.{entriesIn, readVolume, readVolumeCall, writeVolume, writeVolumeCall}
 use Rattle.rates.specs.Calls.{loadRates, loadRatesCall}
@@ -15,12 +15,13 @@ use Rattle.soundness.proofs.InVolume.{volume-fits}
 use Rattle.duty.specs.Calls.{volumeDuty, volumeDutyCall}
 use Rattle.comparison.specs.Comparison.{compareRecordings, compareRecordingsCall}
 use Rattle.same_run.specs.SameRun.{sameRun, sameRunCall}
+use Rattle.test_load.specs.TestLoad.{seedAndCount, testLoad, testLoadCall}
 use Rattle.checkpoint.specs.Checkpoint.{lengthOf}
 use Rattle.conditions.specs.Limit.{limit}
 use Rattle.conditions.specs.Conditions.{setUpCheck, headCheck, cipherCheck, within, endOf, moveCheck, undoAt, recoverCheck, cipherIn, loadCheck, stringCheck}
 use Rattle.engine.specs.Calls.{headReady, setUp, setUpCall, cipher, cipherCall, encipherVolume, encipherVolumeCall, move, moveCall, write, writeCall, checkpointLength, checkpointLengthCall, recover, recoverCall, load, loadCall, spent, spentCall}
 use Rattle.theorems.specs.Demand1.{Demand1}
-use Rattle.theorems.proofs.Within.{Within, by-none, first, after, then-line, line-unless, line-without, first-line, answers, word-within, head-within, found-within, end-within, cipher-within, contents-within, volume-within, rates-within}
+use Rattle.theorems.proofs.Within.{Within, by-none, first, after, then-line, line-unless, only-unless, first-line, answers, set-up-within, word-within, head-within, found-within, end-within, cipher-within, contents-within, volume-within, rates-within}
 
 abbrev pub sameRunNumbers : List ℕ
 sameRunNumbers = 9 ∷ 1 ∷ 10 ∷ 9 ∷ 10 ∷ 5 ∷ 11 ∷ 12 ∷ 9 ∷ 1 ∷ 10 ∷ 9 ∷ 10 ∷ 5 ∷ 11 ∷ 12 ∷ 23 ∷ []
@@ -43,15 +44,12 @@ same-run-within one two =
     (after (after (after (after (after (after (after (after (after (after (after (after (after (after (after (after first)))))))))))))))) by-none
 
 pub demand1 : Demand1
-unfolding setUpCall setUp setUpCheck cipherCall cipher cipherCheck encipherVolumeCall encipherVolume moveCall move moveCheck endOf writeCall write checkpointLengthCall checkpointLength recoverCall recover recoverCheck loadCall load loadCheck spentCall spent writeVolumeCall writeVolume readVolumeCall readVolume volumeDutyCall volumeDuty loadRatesCall compareRecordingsCall compareRecordings sameRunCall
+unfolding setUpCall setUp testLoadCall testLoad seedAndCount cipherCall cipher cipherCheck encipherVolumeCall encipherVolume moveCall move moveCheck endOf writeCall write checkpointLengthCall checkpointLength recoverCall recover recoverCheck loadCall load loadCheck spentCall spent writeVolumeCall writeVolume readVolumeCall readVolume volumeDutyCall volumeDuty loadRatesCall compareRecordingsCall compareRecordings sameRunCall
 demand1 = record {
   of-set-up = λ h code key iv area.
       answers _ (setUp code key iv area)
       (then-line (setUpCheck code (length key) (length iv) (length area)) _
-      (line-without 1 (byCode code) _ first λ c.
-      line-unless 2 (eqb (length key) (keyLength c)) _ (after first)
-      (line-unless 3 (eqb (length iv) (ivLength c)) _ (after (after first))
-      (line-unless 4 (eqb (length area) (areaLength c)) _ (after (after (after first))) by-none)))
+      (set-up-within code (length key) (length iv) (length area) first (after first) (after (after first)) (after (after (after first))))
       (λ c. by-none));
   of-cipher = λ h area bytes.
       answers _ (cipher h area bytes)
@@ -105,6 +103,15 @@ demand1 = record {
   of-spent = λ h.
       answers _ (spent h)
       (first-line (headCheck (h .code) (h .position)) _ (head-within (h .code) (h .position) first (after first)) by-none);
+  of-test-load = λ h seed count code key iv area.
+      answers _ (testLoad seed count code key iv area)
+      (first-line (seedAndCount seed count) _ (line-unless 17 (not (eqb seed 0)) _ first (only-unless 18 (leb count 1000) (after first)))
+      (then-line (setUp code key iv area) _
+      (then-line (setUpCheck code (length key) (length iv) (length area)) _
+      (set-up-within code (length key) (length iv) (length area) (after (after first)) (after (after (after first))) (after (after (after (after first))))
+      (after (after (after (after (after first))))))
+      (λ c. by-none))
+      (λ e. by-none)));
   of-write-volume = λ list lent.
       answers _ (writeVolume list lent)
       (line-unless 16 (eqb (length list % 4) 0) _ first

@@ -26,7 +26,7 @@ use Rattle.laws.specs.Result.{accepted}
 use Rattle.conditions.specs.Limit.{limit}
 use Rattle.engine.specs.Head.{headAt, withMark, markAfter}
 use Rattle.conditions.specs.Conditions.{cipherCheck, endOf, moveCheck}
-use Rattle.engine.specs.Calls.{Engine, engineOf, engineAt, headReady, Ciphered, setUp, cipher, move, recover, spent}
+use Rattle.engine.specs.Calls.{Engine, engineOf, engineAt, headReady, Ciphered, setUp, cipher, move, recover}
 use Rattle.conditions.proofs.Conditions.{set-up-accepted}
 use Rattle.engine.proofs.Calls.{mark-again}
 use Rattle.theorems.specs.Account.{Four, IsFour, atPosition, empty, holds, tablesOf, engineOfFour}
@@ -35,7 +35,8 @@ use Rattle.theorems.specs.Demand2.{Demand2}
 use Rattle.laws.proofs.Results.{no-refusal, accepted-one, after-line, after-unless}
 use Rattle.theorems.proofs.Tables.{moved-area, moved-undone, undo-finds, four-true, four-moved}
 use Rattle.theorems.proofs.Twice.{ciphered-twice}
-use Rattle.theorems.proofs.Conditions.{word-shows, word-accepted, cipher-shows, move-shows, move-accepted, recover-finds}
+use Rattle.conditions.proofs.Shows.{word-shows, word-accepted}
+use Rattle.theorems.proofs.Conditions.{cipher-shows, move-shows, move-accepted, recover-finds}
 use Rattle.theorems.proofs.Agree.{headOf, agree, agree-four}
 use Rattle.theorems.proofs.HeadMark.{cipher-mark, four-spent}
 
@@ -65,7 +66,7 @@ four-moved-to f mark d e h q =
     let a = move-shows _ (f .position) d m e₁ in
     (m .end, a .end-is, a .end-within, accepted-one q (four-movable f mark d (m .end) h (a .end-is) (a .end-within)))
 
-four-set-up : (c : Cipher) (key iv area : List ℕ) → Pair c key iv → length area ≡ areaLength c
+pub four-set-up : (c : Cipher) (key iv area : List ℕ) → Pair c key iv → length area ≡ areaLength c
     → setUp (codeOf c) key iv area ≡ accepted (engineOfFour (record { cipher = c; key = key; iv = iv; position = 0 }) 0)
 unfolding setUp tablesOf
 four-set-up c key iv area pair z =

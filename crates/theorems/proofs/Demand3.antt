@@ -20,7 +20,7 @@ use Rattle.conditions.specs.Conditions.{Contents, loadCheck}
 use Rattle.engine.specs.declared.Head.{Head}
 use Rattle.engine.specs.Calls.{engineOf, engineAt, Written, Loaded, eightWords, encipherVolume, write, load}
 use Rattle.conditions.proofs.Conditions.{set-up-accepted, ready-unknown, ready-accepted}
-use Rattle.theorems.specs.Account.{Call, call-set-up, call-cipher, call-encipher-volume, call-move, call-write, call-recover, call-load, call-spent, AllGiven, answered, Four, IsFour, Account, empty, holds, unless-refused, feed, account, engineAfter, accountAfter, checkpointOf, Checkpoint}
+use Rattle.theorems.specs.Account.{Call, call-set-up, call-cipher, call-encipher-volume, call-move, call-write, call-recover, call-load, call-spent, call-test-load, AllGiven, answered, Four, IsFour, Account, empty, holds, unless-refused, feed, account, engineAfter, accountAfter, checkpointOf, Checkpoint}
 use Rattle.theorems.specs.Farthest.{farthestAfter}
 use Rattle.theorems.specs.Demand3.{writeAfter, given, Names, Demand3}
 use Rattle.laws.proofs.Results.{no-refusal, accepted-one, after-line}
@@ -121,6 +121,7 @@ module _ (start : List ℕ) (a : Account) (mark : ℕ) (s : List ℕ) (t : Table
       true-compares start a mark s _ t (recover-compares h s key iv) (answers-13 (demand1 .of-recover h s key iv) q)
   answers-no-13 (call-load string) q = not-one-of (demand1 .of-load h string s) q refl
   answers-no-13 call-spent q = not-one-of (demand1 .of-spent h) q refl
+  answers-no-13 (call-test-load seed count code key iv) q = not-one-of (demand1 .of-test-load h seed count code key iv s) q refl
 
 never-13 :
     (calls : List Call) → AllGiven calls → (area : List ℕ) (call : Call) → answered (engineAfter calls area) call ≡ 13 → ⊥

@@ -1,12 +1,12 @@
 -- The word of a head is document 02's: the output of the last step taken, left true by each call that changes the state, and compared straight after
 -- 5. Assumes nothing.
 use mathlib.Core.Path.{_≡_, refl, sym, ap, _∙_, subst}
-use mathlib.Core.List.{List, []}
+use mathlib.Core.List.{List, [], _∷_}
 use Prim.Native.Nat.{ℕ, _+_, _*_, _≤_}
 use native.Mathlib.Nat.{add-zero}
 use native.Mathlib.Omega.{arith}
 use lib.IntN.{ℤ}
-use lib.ListN.{length}
+use lib.ListN.{length, replicate}
 use Rattle.laws.proofs.Iterate.{forward-none}
 use Rattle.cipher.specs.declared.Cipher.{Cipher}
 use Rattle.tables.specs.Step.{output}
@@ -14,15 +14,20 @@ use Rattle.steps.specs.Steps.{lastOutput, wordAt}
 use Rattle.steps.proofs.Words.{last-taken}
 use Rattle.keystream.specs.Keystream.{tablesNext, ciphered}
 use Rattle.keystream.proofs.Positions.{moved-on}
-use Rattle.laws.specs.Result.{accepted}
+use Rattle.laws.specs.Result.{Result, refused, accepted, outcome}
 use Rattle.conditions.specs.Conditions.{setUpCheck, cipherCheck, moveCheck, loadCheck}
 use Rattle.engine.specs.declared.Head.{Head}
 use Rattle.engine.specs.Head.{headAt, markAfter}
-use Rattle.engine.specs.Calls.{Engine, engineOf, headReady, Ciphered, Loaded, setUp, cipher, move, load}
+use Rattle.engine.specs.Calls.{Engine, engineOf, headReady, Ciphered, Loaded, setUp, cipher, cipherCall, move, moveCall, load}
 use Rattle.theorems.specs.HeadWord.{TrueWord, HeadWord}
 use Rattle.laws.proofs.Results.{no-refusal, accepted-one, after-line}
-use Rattle.theorems.proofs.Conditions.{set-up-shows, word-shows, cipher-shows, move-shows}
+use Rattle.conditions.proofs.Shows.{word-shows}
+use Rattle.theorems.proofs.Conditions.{set-up-shows, cipher-shows, move-shows}
+use Rattle.test_load.specs.Words.{GeneratedCall, move-to, cipher-zeros, generatedCalls}
+use Rattle.test_load.specs.TestLoad.{runCall, runCalls, testLoad}
+use Rattle.move_to.specs.MoveTo.{moveTo}
 use Rattle.theorems.proofs.Encipher.{enciphered}
+use Rattle.theorems.proofs.GeneratedCalls.{seed-shows}
 use Rattle.theorems.proofs.Compares.{cipher-compares, encipher-compares, move-compares, write-compares, recover-compares}
 
 of-step : (c : Cipher) (s : List ℕ) (i r : ℕ) → 1 ≤ r → r ≤ 4 → wordAt c s (4 * i + r) ≡ output c s i
@@ -62,6 +67,29 @@ load-leaves string area o q =
     subst (λ (x : Loaded). TrueWord (x .engine)) (accepted-one refl r₁)
     (record { cipher = l .cipher; code-is = refl; word-is = refl })
 
+-- a refused call leaves the engine, and so its word
+kept-true : {B : Type 0} (engine : B → Engine) (old : B) (r : Result B) → TrueWord (engine old) → ((x : B) → r ≡ accepted x → TrueWord (engine x))
+    → TrueWord (engine (outcome old r .value))
+kept-true engine old (refused n) t k = t
+kept-true engine old (accepted x) t k = k x refl
+
+calls-leave : (calls : List GeneratedCall) (e : Engine) → TrueWord e → TrueWord (runCalls calls e)
+unfolding runCalls runCall moveTo moveCall cipherCall
+calls-leave [] e t = t
+calls-leave (move-to byte ∷ calls) e t =
+    calls-leave calls _
+    (kept-true (λ (x : Engine). x) _ (move (e .head) (e .area) _) t λ x q. move-leaves (e .head) (e .area) _ x q)
+calls-leave (cipher-zeros n ∷ calls) e t =
+    calls-leave calls _
+    (kept-true (λ (x : Ciphered). x .engine) _ (cipher (e .head) (e .area) (replicate n 0)) t λ x q.
+    cipher-leaves (e .head) (e .area) (replicate n 0) x q)
+
+test-load-leaves : (seed count code : ℕ) (key iv area : List ℕ) (e : Engine) → testLoad seed count code key iv area ≡ accepted e → TrueWord e
+unfolding testLoad
+test-load-leaves seed count code key iv area e q =
+    after-line (setUp code key iv area) _ (seed-shows seed count _ q .2) (λ _. no-refusal) λ x e₁ r₁.
+    subst TrueWord (accepted-one refl r₁) (calls-leave (generatedCalls seed count) x (set-up-leaves code key iv area x e₁))
+
 no-bytes : (h : Head) (area : List ℕ) (r : Ciphered) → cipher h area [] ≡ accepted r → r ≡ record { engine = engineOf h area; bytes = [] }
 unfolding cipher ciphered markAfter
 no-bytes h area r q =
@@ -80,6 +108,7 @@ head-word = record {
   encipher-leaves = λ h area volume r e. cipher-leaves h area volume r (enciphered h area volume r e .ciphers);
   move-leaves = move-leaves;
   load-leaves = load-leaves;
+  test-load-leaves = test-load-leaves;
   no-bytes = no-bytes;
   cipher-compares = cipher-compares;
   encipher-compares = encipher-compares;

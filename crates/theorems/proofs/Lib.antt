@@ -12,6 +12,7 @@ pub mod Conditions
 pub mod Checkpoints
 pub mod Names
 pub mod Writes
+pub mod GeneratedCalls
 pub mod Agree
 pub mod Encipher
 pub mod Compares
@@ -28,3 +29,4 @@ pub mod Refusal12
 pub mod Demand2
 pub mod BlenderAgainstGauge
 pub mod SameRun
+pub mod TestLoad

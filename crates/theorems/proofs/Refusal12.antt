@@ -23,7 +23,8 @@ use Rattle.theorems.specs.Refusal12.{NoneHave, RecoverNone, LoadNone, Re
 use Rattle.laws.proofs.Results.{no-refusal, refused-iff}
 use Rattle.theorems.proofs.Tables.{undo-finds, found-have}
 use Rattle.theorems.proofs.Zeros.{none-found-at}
-use Rattle.theorems.proofs.Conditions.{refused-only, WordShows, recover-finds, recover-passed, load-finds, load-passed}
+use Rattle.conditions.proofs.Shows.{refused-only, WordShows}
+use Rattle.theorems.proofs.Conditions.{recover-finds, recover-passed, load-finds, load-passed}
 use Rattle.theorems.proofs.Checkpoints.{LaidOut, laid-out-passed, passed-laid-out}
 
 module _ (c : Cipher) (s : List ℕ) (p : ℕ) (area : Area c s) where

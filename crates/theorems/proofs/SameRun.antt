@@ -21,12 +21,13 @@ use Rattle.varint.specs.Number.{readGroups}
 use Rattle.checkpoint.specs.Checkpoint.{lengthOf}
 use Rattle.checkpoint.proofs.Checkpoint.{layout-length}
 use Rattle.conditions.specs.Conditions.{Contents, cipherIn, contentsIn, loadCheck, stringCheck}
-use Rattle.engine.specs.Calls.{Written, Loaded, eightWords, move, load}
+use Rattle.engine.specs.Calls.{Loaded, eightWords, move, load}
 use Rattle.same_run.specs.SameRun.{sameKeyAndIv, sameRun}
 use Rattle.theorems.specs.Account.{Four, IsFour, holds, atPosition, engineOfFour, tablesOf, checkpointOf, Checkpoint}
 use Rattle.theorems.specs.Demand3.{given}
 use Rattle.theorems.specs.SameRun.{BothLoad, OneCipher, distance, MovedAndWritten, LoadRefuses, Loads, WrittenAfter, SameRun}
-use Rattle.theorems.proofs.Tables.{ends-at, four-area, four-true}
+use Rattle.move_to.proofs.Moves.{ends-at}
+use Rattle.theorems.proofs.Tables.{four-area, four-true}
 use Rattle.theorems.proofs.Checkpoints.{fourOf, loadedOf, load-checkpoint, load-shows, load-is, checkpoint-of-one}
 use Rattle.theorems.proofs.Names.{key-and-iv-one}
 use Rattle.theorems.proofs.Writes.{write-iff}

@@ -5,7 +5,6 @@ use mathlib.Core.Logic.{⊎-elim}
 use mathlib.Core.List.{List}
 use Prim.Native.Nat.{ℕ, _-_, _≤_, _<_}
 use native.Mathlib.Omega.{arith}
-use lib.IntN.{pos, _+ℤ_, _-ℤ_, +ℤ-comm, -ℤ-+ℤ-cancel}
 use lib.ListN.{length}
 use Rattle.laws.proofs.Iterate.{forward-from}
 use Rattle.laws.proofs.Lists.{below-or-not}
@@ -26,10 +25,6 @@ use Rattle.conditions.proofs.Conditions.{ready-accepted, word-true}
 use Rattle.theorems.specs.Account.{Four, IsFour, tablesOf}
 
 -- ── moves ──
-
--- the distance from p to q ends at q
-pub ends-at : (p q : ℕ) → pos p +ℤ (pos q -ℤ pos p) ≡ pos q
-ends-at p q = +ℤ-comm (pos p) (pos q -ℤ pos p) ∙ -ℤ-+ℤ-cancel (pos q) (pos p)
 
 -- s are the tables that set-up leaves
 module _ (c : Cipher) (s : List ℕ) (area : Area c s) where

@@ -12,7 +12,7 @@ use lib.IntN.{ℤ, pos, negsuc}
 use lib.ListN.{length, drop}
 use Rattle.word.specs.Bytes.{words}
 use Rattle.cipher.specs.declared.Cipher.{Cipher}
-use Rattle.cipher.specs.Numbers.{byCode, areaLength}
+use Rattle.cipher.specs.Numbers.{byCode, areaLength, keyLength, ivLength}
 use Rattle.steps.specs.Steps.{wordAt}
 use Rattle.setup.specs.SetUp as SetUp
 use Rattle.setup.specs.SetUp.{Undone}
@@ -23,7 +23,7 @@ use Rattle.rates.specs.Calls.{pairCountRange, rateRange, refusedAs24, readPair,
 use Rattle.laws.specs.Result.{Result, refused, accepted, outcome, _>>=_, _>>_, refuse_unless_, refuse_without_}
 use Rattle.conditions.specs.Limit.{limit}
 use Rattle.checkpoint.specs.Checkpoint.{mostGroups as checkpointGroups}
-use Rattle.conditions.specs.Conditions.{ready, readyWithWord, headCheck, within, undoAt, foundOr12, positionRead, firstByte, cipherIn, contentsIn}
+use Rattle.conditions.specs.Conditions.{setUpCheck, ready, readyWithWord, headCheck, within, undoAt, foundOr12, positionRead, firstByte, cipherIn, contentsIn}
 use Rattle.theorems.specs.Demand1.{AcceptedOrRefused}
 use Rattle.laws.proofs.Results.{no-refusal}
 
@@ -60,6 +60,10 @@ module _ {numbers : List ℕ} where
   only-without n none h = by-one h
   only-without n (some a) h = by-none
 
+  pub only-unless : (n : ℕ) (t : Bool) → List·Memᴰ n numbers → Within numbers (refuse n unless t)
+  only-unless n true h = by-none
+  only-unless n false h = by-one h
+
   pub first-line : {A B : Type 0} (r : Result A) (q : Result B) → Within numbers r → Within numbers q → Within numbers (r >> q)
   first-line (refused n) q (by-one h) k = by-one h
   first-line (accepted a) q h k = k
@@ -70,6 +74,13 @@ module _ {numbers : List ℕ} where
   answers old (accepted new) h = inl (record { new = new; result-is = refl; outcome-is = refl })
 
   -- ── conditions that several calls share ──
+
+  pub set-up-within : (code key iv size : ℕ) → List·Memᴰ 1 numbers → List·Memᴰ 2 numbers → List·Memᴰ 3 numbers → List·Memᴰ 4 numbers
+      → Within numbers (setUpCheck code key iv size)
+  unfolding setUpCheck
+  set-up-within code key iv size a b c d =
+      line-without 1 (byCode code) _ a λ x.
+      line-unless 2 (eqb key (keyLength x)) _ b (line-unless 3 (eqb iv (ivLength x)) _ c (line-unless 4 (eqb size (areaLength x)) _ d by-none))
 
   pub ready-within : (code position size : ℕ) → List·Memᴰ 1 numbers → List·Memᴰ 4 numbers → List·Memᴰ 5 numbers → Within numbers (ready code position size)
   unfolding ready

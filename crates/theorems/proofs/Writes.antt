@@ -17,7 +17,7 @@ use Rattle.engine.specs.declared.Head.{Head}
 use Rattle.engine.specs.Calls.{engineOf, headReady, Written, write}
 use Rattle.theorems.specs.Demand3.{given}
 use Rattle.laws.proofs.Results.{no-refusal, accepted-one, after-line, after-unless}
-use Rattle.theorems.proofs.Conditions.{ReadyShows, word-shows}
+use Rattle.conditions.proofs.Shows.{ReadyShows, word-shows}
 
 -- the layout of head and area is given, and head, area and later bytes stay
 pub record WriteShows (h : Head) (area lent : List ℕ) (w : Written) (c : Cipher) : Type 0 where

@@ -1,5 +1,5 @@
 -- Document 01, 'The account kept beside the engine': lists of calls, the account that they feed, and the checkpoint of a four. Document 02 (d) adds the
--- enciphering of a volume to the calls.
+-- enciphering of a volume to the calls, and (h) the test load.
 use mathlib.Core.Path.{_≡_}
 use mathlib.Core.List.{List, [], _∷_}
 use Prim.Native.Nat.{ℕ, _+_, _≤_}
@@ -17,6 +17,9 @@ use Rattle.engine.specs.Head.{freshHead}
 use Rattle.conditions.specs.Conditions.{setUpCheck, ready, cipherCheck, moveCheck, loadCheck}
 use Rattle.engine.specs.Calls.{Engine, engineOf, engineAt, setUpCall, cipherCall, encipherVolumeCall, moveCall, writeCall, recoverCall, loadCall, spentCall}
 use Rattle.volume.specs.Calls.{entriesIn}
+use Rattle.move_to.specs.MoveTo.{distance}
+use Rattle.test_load.specs.Words.{GeneratedCall, move-to, cipher-zeros, generatedCalls}
+use Rattle.test_load.specs.TestLoad.{seedAndCount, testLoadCall}
 use Rattle.checkpoint.specs.Checkpoint.{layout}
 
 -- ── lists of calls ──
@@ -31,6 +34,7 @@ pub data Call : Type 0 where
   call-recover : (key iv : List ℕ) → Call
   call-load : (string : List ℕ) → Call
   call-spent : Call
+  call-test-load : (seed count code : ℕ) (key iv : List ℕ) → Call
 
 -- key, IV and string are bytes; demand 3 holds whatever the other lent bytes and numbers are, so nothing is asked of them
 abbrev pub Given : Call → Type 0
@@ -42,6 +46,7 @@ Given (call-move distance) = Unit {0}
 Given (call-write lent) = Unit {0}
 Given (call-recover key iv) = Unit {0}
 Given call-spent = Unit {0}
+Given (call-test-load seed count code key iv) = AllBytes key × AllBytes iv
 
 abbrev pub AllGiven : List Call → Type 0
 AllGiven [] = Unit {0}
@@ -57,6 +62,7 @@ called e (call-write lent) = writeCall (e .head) (e .area) lent .value .engine
 called e (call-recover key iv) = recoverCall (e .head) (e .area) key iv .value .engine
 called e (call-load string) = loadCall (e .head) string (e .area) .value .engine
 called e call-spent = engineOf (spentCall (e .head) .value .head) (e .area)
+called e (call-test-load seed count code key iv) = testLoadCall (e .head) seed count code key iv (e .area) .value
 
 -- the refusal number that a call answers then, 0 where it is accepted
 unfoldable pub answered : Engine → Call → ℕ
@@ -68,6 +74,7 @@ answered e (call-write lent) = writeCall (e .head) (e .area) lent .refusal
 answered e (call-recover key iv) = recoverCall (e .head) (e .area) key iv .refusal
 answered e (call-load string) = loadCall (e .head) string (e .area) .refusal
 answered e call-spent = spentCall (e .head) .refusal
+answered e (call-test-load seed count code key iv) = testLoadCall (e .head) seed count code key iv (e .area) .refusal
 
 unfoldable pub run : List Call → Engine → Engine
 run [] e = e
@@ -118,20 +125,33 @@ abbrev pub unless-refused : {A B : Type 0} → B → Result A → (A → B) → 
 unless-refused old (refused n) f = old
 unless-refused old (accepted x) f = f x
 
+-- the four that set up starts: 'the given cipher, key and IV with position 0'
+abbrev pub atStart : Cipher → (key iv : List ℕ) → Four
+atStart c key iv = record { cipher = c; key = key; iv = iv; position = 0 }
+
+-- the account after a cipher call of n bytes, and after a move
+abbrev pub feedCipher : ℕ → Account → (n : ℕ) → Account
+feedCipher size a n = unless-refused a (cipherCheck (accountReady size a) (accountPosition a) n) (λ c. at a (accountPosition a + n))
+
+abbrev pub feedMove : ℕ → Account → (distance : ℤ) → Account
+feedMove size a distance = unless-refused a (moveCheck (accountReady size a) (accountPosition a) distance) (λ m. at a (m .end))
+
+-- the account after the generated calls of a test load, one after the other: a move to a byte is one by the distance from the account's position
+unfoldable pub feedGenerated : ℕ → Account → List GeneratedCall → Account
+feedGenerated size a [] = a
+feedGenerated size a (move-to byte ∷ calls) = feedGenerated size (feedMove size a (distance (accountPosition a) byte)) calls
+feedGenerated size a (cipher-zeros n ∷ calls) = feedGenerated size (feedCipher size a n) calls
+
 -- the account after one call, from the call's arguments and the area's size, and nothing else
 unfoldable pub feed : ℕ → Account → Call → Account
 feed size a (call-set-up code key iv) =
-    unless-refused a (setUpCheck code (length key) (length iv) size)
-    (λ c. holds (record { cipher = c; key = key; iv = iv; position = 0 }))
-feed size a (call-cipher bytes) =
-    unless-refused a (cipherCheck (accountReady size a) (accountPosition a) (length bytes))
-    (λ c. at a (accountPosition a + length bytes))
+    unless-refused a (setUpCheck code (length key) (length iv) size) (λ c. holds (atStart c key iv))
+feed size a (call-cipher bytes) = feedCipher size a (length bytes)
 -- document 02 (d): 'a cipher call in the account', whose conditions are those of reading, 8 excepted, and then those of a cipher call
 feed size a (call-encipher-volume volume) =
     unless-refused a (entriesIn volume >> cipherCheck (accountReady size a) (accountPosition a) (length volume))
     (λ c. at a (accountPosition a + length volume))
-feed size a (call-move distance) =
-    unless-refused a (moveCheck (accountReady size a) (accountPosition a) distance) (λ m. at a (m .end))
+feed size a (call-move distance) = feedMove size a distance
 -- 'Load makes it the four whose checkpoint the string is': load's conditions find that four by undoing. `feed-load` of Demand3 says that it is the
 -- one whose checkpoint the string is, and `feed-else` that the account stays where the string is the checkpoint of none.
 feed size a (call-load string) =
@@ -140,6 +160,10 @@ feed size a (call-load string) =
 feed size a (call-write lent) = a
 feed size a (call-recover key iv) = a
 feed size a call-spent = a
+-- document 02 (h): 'For the account .. it is that set-up and those calls.' Its conditions are 17 and 18, and then those of set up.
+feed size a (call-test-load seed count code key iv) =
+    unless-refused a (seedAndCount seed count >> setUpCheck code (length key) (length iv) size)
+    (λ c. feedGenerated size (holds (atStart c key iv)) (generatedCalls seed count))
 
 unfoldable pub account : ℕ → List Call → Account → Account
 account size [] a = a

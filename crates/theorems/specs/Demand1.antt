@@ -16,6 +16,7 @@ use Rattle.soundness.specs.Soundness.{Fits}
 use Rattle.comparison.specs.declared.Part.the-variants as part
 use Rattle.comparison.specs.Comparison.{compareRecordings, compareRecordingsCall}
 use Rattle.same_run.specs.SameRun.{sameRun, sameRunCall}
+use Rattle.test_load.specs.TestLoad.{testLoad, testLoadCall}
 use Rattle.laws.specs.Result.{Result, refused, accepted, Outcome}
 use Rattle.word.specs.Bytes.{AllBytes}
 use Rattle.engine.specs.declared.Head.{Head}
@@ -71,6 +72,10 @@ pub record Demand1 : Type 0 where
       → AcceptedOrRefused (9 ∷ 1 ∷ 4 ∷ 10 ∷ 9 ∷ 10 ∷ 5 ∷ 11 ∷ 12 ∷ [])
       (record { engine = engineOf h area; key = replicate 8 0; iv = replicate 8 0 }) (load string area) (loadCall h string area)
   pub of-spent : (h : Head) → AcceptedOrRefused (1 ∷ 5 ∷ []) (record { head = h; count = 0 }) (spent h) (spentCall h)
+  pub of-test-load :
+      (h : Head) (seed count code : ℕ) (key iv area : List ℕ)
+      → AcceptedOrRefused (17 ∷ 18 ∷ 1 ∷ 2 ∷ 3 ∷ 4 ∷ []) (engineOf h area)
+      (testLoad seed count code key iv area) (testLoadCall h seed count code key iv area)
   pub of-write-volume :
       (list lent : List ℕ)
       → AcceptedOrRefused (16 ∷ 15 ∷ 15 ∷ 8 ∷ []) (record { length = 0; lent = lent }) (writeVolume list lent) (writeVolumeCall list lent)

@@ -14,6 +14,7 @@ use Rattle.volume.specs.declared.Entry.{Entry}
 use Rattle.volume.specs.Calls.{entriesIn}
 use Rattle.laws.specs.Result.{Result, refused, accepted}
 use Rattle.conditions.specs.Conditions.{ready}
+use Rattle.test_load.specs.TestLoad.{testLoad}
 use Rattle.engine.specs.declared.Head.{Head}
 use Rattle.engine.specs.Calls.{Engine, engineOf, Ciphered, Loaded, setUp, cipher, encipherVolume, move, write, recover, load}
 
@@ -41,6 +42,9 @@ pub record HeadWord : Type 0 where
   pub move-leaves : (h : Head) (area : List ℕ) (d : ℤ) (e : Engine) → move h area d ≡ accepted e → TrueWord e
   -- 'A load works it out afresh'
   pub load-leaves : (string area : List ℕ) (o : Loaded) → load string area ≡ accepted o → TrueWord (o .engine)
+  -- the test load leaves it true as the calls do of which it is made (document 02 (h))
+  pub test-load-leaves :
+      (seed count code : ℕ) (key iv area : List ℕ) (e : Engine) → testLoad seed count code key iv area ≡ accepted e → TrueWord e
   -- a cipher call of no bytes keeps it, as it keeps all else
   pub no-bytes : (h : Head) (area : List ℕ) (r : Ciphered) → cipher h area [] ≡ accepted r → r ≡ record { engine = engineOf h area; bytes = [] }
   -- 'It refuses such a head with 13, in the calls that take an area, straight after 5'

@@ -19,3 +19,4 @@ pub mod RefineryRates
 pub mod WhereHopeless
 pub mod BlenderAgainstGauge
 pub mod SameRun
+pub mod TestLoad

@@ -2,9 +2,9 @@
 use mathlib.Core.Path.{_∙_}
 use native.Mathlib.Omega.{arith}
 use borrow.Author.Needs.{needs}
-use Rattle.lab.proofs.Tasks.{from-over, to-over, by-distance, distance-fits, distance-is}
-use Rattle.lab.proofs.move_to.Statement.{statement}
-use Rattle.lab.proofs.move_to.Tie as tie
+use Rattle.move_to.proofs.Moves.{from-over, to-over, by-distance, distance-fits, distance-is}
+use Rattle.move_to.proofs.move_to.Statement.{statement}
+use Rattle.move_to.proofs.move_to.Tie as tie
 
 returns : tie.Need-returns
 returns c = c .before .before .move-by .ensures ∙ from-over _ _ _ _ (c .before .before .before .before .if1 .taken)
