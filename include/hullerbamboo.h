@@ -17,13 +17,13 @@
  *     what is not const. Inputs that are const may overlap one another.
  *   - While a call runs, no other thread, interrupt or signal handler writes what you lent, or reads what the call writes.
  *   - Keep a head with its own area, and copy both between the same two calls. Refusal 13 notices some of what goes wrong here, and not all.
- *   - Never encipher two texts at the same positions under one key and IV. Moving back, loading a checkpoint twice or a second set up brings you
- *     there. hc_spent tells from which position on this head has used no keystream since its last set up or load. It cannot tell what was used
- *     before that, with a copy of head and area, or after another load of the same checkpoint.
+ *   - Never encipher two texts at the same positions under one key and IV. Moving back, loading a checkpoint twice, a second set up or a test load
+ *     brings you there. hc_spent tells from which position on this head has used no keystream since its last set up or load. It cannot tell what was
+ *     used before that, with a copy of head and area, or after another load of the same checkpoint.
  *
  * Secret: the key, the area, a checkpoint, what hc_load returns, and the word of a head, which is four bytes of keystream from position 1 on. The
  * area and a checkpoint are as secret as the key, since hc_recover finds the key in them. hc_load, hc_recover and hc_same_run work on a copy of the
- * tables on the stack, and no call wipes its stack.
+ * tables on the stack, hc_test_load leaves up to 256 bytes of keystream there, and no call wipes its stack.
  *
  * Refusal 13: each step changes one word of the area and makes one word, four bytes, of keystream. A head's word is the one that the last step made,
  * and 0 at position 0. hc_cipher, hc_encipher_volume, hc_move, hc_write and hc_recover work it out from the area and compare. So a head with an area
@@ -258,28 +258,29 @@ struct hc_words hc_load(struct hc_head *head, uint32_t *area, size_t area_words,
  */
 struct hc_yes_or_no hc_same_run(const uint8_t *first, size_t first_bytes, const uint8_t *second, size_t second_bytes);
 
-/* Test load: sets up as hc_set_up does, and then runs count calls that come from the seed, so that two benches put the same strain on a box. The seed
- * is a first word. A word x becomes the next one so, each shift being of the word so far and cut to 32 bits:
+/* Test load: sets up as hc_set_up does, and then runs count calls that come from a seed, so that two benches put the same strain on a box. The calls
+ * come from words of 32 bits. From a word x, which is the seed at first, comes the new word
  *
- *     x ^= x << 13;
+ *     x ^= x << 13; // each shift is of the word so far and cut to 32 bits, so x is a uint32_t
  *     x ^= x >> 17;
  *     x ^= x << 5;
  *
- * Each next word w gives one call, the first new word the first call. Where w is even, it is a move to the byte (w / 2) % 4096, forward or back; where
- * w is odd, it is a cipher call over (w / 2) % 257 zero bytes, also over none. These bytes are the call's own, and you do not get them. No call that
- * comes from a seed is refused. Head, word, tables, position and mark are then those after the set up and these calls, whatever the head was, and
- * hc_write gives the checkpoint of this code, key and IV at the position that the words lead to, which is never over 260,095. With a count of 0 it is
- * the set up alone. Use it with a key and an IV that encipher nothing else: it takes keystream from position 0 on.
+ * Each new word w gives one call; the seed itself gives none. Where w is even, it is a move to the byte (w / 2) % 4096, forward or back; where w is
+ * odd, it is a cipher call over (w / 2) % 257 zero bytes, also over none. These bytes are the call's own, and you do not get them. None of these
+ * calls is refused. Head and tables are then those after the set up and these calls, whatever they were before, and hc_write gives the checkpoint of
+ * this code, key and IV at the position that the words lead to, which is never over 260,095. With a count of 0 it is the set up alone. Wherever this
+ * page speaks of a set up, a test load is one. Give it a key and an IV with which nothing else is enciphered, for it uses keystream from position 0
+ * on and leaves some of it on the stack.
  * Refusals: 17 where the seed is 0, 18 where count is over HC_TEST_CALLS, then 1, 2, 3, 4 as hc_set_up. Stack: 736 bytes.
  *
  *     From seed 1 come 0x00042021, 0x04080601, 0x9DCCA8C5, 0x1255994F and 0x8EF917D1, cipher calls over 2, 256, 166, 253 and 146 bytes,
- *     and then 0x2C6F5BD0, a move to byte 3560.
+ *     and then 0x2C6F5BD0, a move to byte 3560: the position is 3560 and the mark 823.
  */
 uint64_t hc_test_load(struct hc_head *head, uint32_t seed, uint64_t count, uint32_t code, const uint8_t *key, size_t key_bytes, const uint8_t *iv,
                       size_t iv_bytes, uint32_t *area, size_t area_words);
 
 /* Spent: how far the keystream has been used, which is the head's mark: the farthest position that a cipher call, or the enciphering of a volume,
- * reached since the last set up or load; a test load is a set up and the calls after it. Set up starts it at 0, load at the loaded position, and a move leaves it. A mark that you made up is taken
+ * reached since the last set up or load. Set up starts it at 0, load at the loaded position, and a move leaves it. A mark that you made up is taken
  * as it is: no call checks it, hc_spent returns it, and hc_cipher and hc_encipher_volume take the larger of it and their own end. Refusal 5 is about
  * the position, whatever the mark. The head stays.
  * Refusals: 1, 5. Stack: 0 bytes. */

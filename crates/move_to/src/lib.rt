@@ -6,7 +6,7 @@ ghost use Rattle.move_to.specs.MoveTo as Moves;
 use engine::Head;
 use engine::answers::Done;
 
-// Moves head and tables to a position.
+// Moves head and tables to a position. From a position over the limit, and to one, the move is refused whatever the distance.
 pub fn move_to(head: Head, area: &mut [u32], position: u64) -> Done
     ensures { λ r. ⌜
         Answers.done (r .refusal) (r .head) (now (area .exit))

@@ -32,7 +32,7 @@ fn cipher_zeros(head: Head, area: &mut [u32], n: usize) -> Head
     done.head
 }
 
-// Makes the call that a word gives, and hands back the next head. The call is never refused.
+// Makes the call that a word gives, and hands back the next head. In a test load no such call is refused.
 fn run_call(head: Head, area: &mut [u32], word: u32) -> Head
     ensures { λ r. ⌜
         Calls.engineOf r (now (area .exit)) ≡ Loads.runCall (Words.callOf word) (Calls.engineOf head (now (area .entry))) ⌝ }

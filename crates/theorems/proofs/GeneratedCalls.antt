@@ -115,16 +115,31 @@ unfolding endOfCalls
 end-within [] p l s = l
 end-within (call ∷ calls) p l s = end-within calls (endOfCall p call) (s .0) (s .1)
 
-larger-within : (n end : ℕ) (reached : List ℕ) → end ≤ limit → largest reached ≤ limit → largest (withEnd n end reached) ≤ limit
+larger-most : (n end most : ℕ) (reached : List ℕ) → end ≤ most → largest reached ≤ most → largest (withEnd n end reached) ≤ most
 unfolding largest
-larger-within zero end reached l m = m
-larger-within (suc n) end reached l m = max-le m l
+larger-most zero end most reached l m = m
+larger-most (suc n) end most reached l m = max-le m l
 
 pub reach-within : (calls : List GeneratedCall) (p : ℕ) → Stay p calls → largest (endsOfCiphers p calls) ≤ limit
 unfolding endsOfCiphers largest
 reach-within [] p s = omega arith
 reach-within (move-to byte ∷ calls) p s = reach-within calls byte (s .1)
-reach-within (cipher-zeros n ∷ calls) p s = larger-within n (p + n) _ (s .0) (reach-within calls (p + n) (s .1))
+reach-within (cipher-zeros n ∷ calls) p s = larger-most n (p + n) limit _ (s .0) (reach-within calls (p + n) (s .1))
+
+before-most : (call : GeneratedCall) (calls : List GeneratedCall) (p most : ℕ) → endOfCall p call ≤ most
+    → largest (endsOfCiphers (endOfCall p call) calls) ≤ most → largest (endsOfCiphers p (call ∷ calls)) ≤ most
+unfolding endsOfCiphers
+before-most (move-to byte) calls p most l m = m
+before-most (cipher-zeros n) calls p most l m = larger-most n (p + n) most _ l m
+
+pub reach-most : (word n p most : ℕ) → p ≤ most → 4095 ≤ most → largest (endsOfCiphers p (generatedCalls word n)) ≤ 256 * n + most
+unfolding generatedCalls endsOfCiphers largest
+reach-most word zero p most l m = omega arith
+reach-most word (suc n) p most l m =
+    let call = callOf (nextWord word) in
+    let e = call-most (nextWord word) p (most + 256) (omega arith) (omega arith) in
+    let others = reach-most (nextWord word) n (endOfCall p call) (most + 256) e (omega arith) in
+    before-most call (generatedCalls (nextWord word) n) p (256 * suc n + most) (omega (arith, e)) (omega (arith, others))
 
 -- one call more in front of the others
 regroup : (m e l : ℕ) → max (max m e) l ≡ max m (max l e)

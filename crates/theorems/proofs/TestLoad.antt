@@ -1,9 +1,9 @@
 -- The test load is document 02's: no generated call is refused, and engine, account and mark are those counted from the words alone. Assumes nothing.
 use mathlib.Core.Path.{_≡_, refl, sym, ap, ap₂, _∙_, subst}
 use mathlib.Core.Bool.{false}
-use mathlib.Core.List.{List, [], _∷_}
+use mathlib.Core.List.{List, [], _∷_, _++_}
 use mathlib.Core.Logic.{_↔_, inl, inr, ⊎-elim}
-use Prim.Native.Nat.{ℕ, zero, suc, _≤_, _<_}
+use Prim.Native.Nat.{ℕ, zero, suc, _+_, _≤_, _<_}
 use native.Mathlib.Nat.{zero-max}
 use native.Mathlib.Omega.{arith}
 use borrow.Author.Tests.{eq-eqb, ne-eqb, lt-leb}
@@ -19,11 +19,11 @@ use Rattle.keys.specs.Key.{Pair}
 use Rattle.conditions.specs.Conditions.{setUpCheck}
 use Rattle.conditions.proofs.Conditions.{set-up-accepted}
 use Rattle.engine.specs.Calls.{Engine, Written, engineOf, setUp, setUpCall, write, spent}
-use Rattle.test_load.specs.Words.{nextWord, GeneratedCall, callOf, generatedCalls}
+use Rattle.test_load.specs.Words.{nextWord, GeneratedCall, move-to, cipher-zeros, callOf, generatedCalls}
 use Rattle.test_load.specs.TestLoad.{runCalls, seedAndCount, testLoad, testLoadCall}
 use Rattle.checkpoint.specs.Checkpoint.{lengthOf}
-use Rattle.theorems.specs.Account.{call-set-up, call-test-load, called, answered, run, Four, IsFour, Account, holds, atStart, unless-refused, feedGenerated, feed, account, tablesOf, engineOfFour, checkpointOf, Checkpoint}
-use Rattle.theorems.specs.Farthest.{reachedByGenerated, reachedBy, reachedSince, largest}
+use Rattle.theorems.specs.Account.{Call, call-set-up, call-test-load, AllGiven, called, answered, run, Four, IsFour, Account, holds, atStart, unless-refused, feedGenerated, feed, account, engineAfter, accountAfter, tablesOf, engineOfFour, checkpointOf, Checkpoint}
+use Rattle.theorems.specs.Farthest.{reachedByGenerated, reachedBy, reachedSince, largest, farthestAfter}
 use Rattle.theorems.specs.Demand1.{AcceptedOrRefused}
 use Rattle.theorems.specs.Demand3.{given}
 use Rattle.theorems.specs.TestLoad.{endOfCalls, endsOfCiphers, positionAfter, markAfterLoad, fourAfter, asCalls, setUpAndCalls, EachAccepted, TestLoad}
@@ -34,9 +34,9 @@ use Rattle.theorems.proofs.Demand3.{four-write-shows}
 use Rattle.theorems.proofs.HeadMark.{four-spent}
 use Rattle.theorems.proofs.Tables.{four-true}
 use Rattle.theorems.proofs.Writes.{write-iff}
-use Rattle.theorems.proofs.Agree.{headOf}
+use Rattle.theorems.proofs.Agree.{headOf, reachedAfter, agree}
 use Rattle.theorems.proofs.Within.{first, after, set-up-within, among, not-among, within-not}
-use Rattle.theorems.proofs.GeneratedCalls.{seed-shows, seed-accepted, load-lines, set-up-four, stay, ends-most, end-within, runs-to, each-of, run-as, fed-to, reached-to, account-as, reached-as}
+use Rattle.theorems.proofs.GeneratedCalls.{seed-shows, seed-accepted, load-lines, set-up-four, stay, ends-most, end-within, reach-most, runs-to, each-of, run-as, fed-to, reached-to, account-as, reached-as}
 
 -- ── where it is refused ──
 
@@ -311,7 +311,7 @@ module _ (e : Engine) (a : Account) (reached : List ℕ) (seed count code : ℕ)
 
 -- ── words ──
 
-beginning : (word m n : ℕ) → m ≤ n → generatedCalls word m ≡ take m (generatedCalls word n)
+beginning : (word m n : ℕ) → m ≤ n → take m (generatedCalls word n) ≡ generatedCalls word m
 unfolding generatedCalls
 beginning word zero n l = refl
 beginning word (suc m) zero l = absurd (omega arith)
@@ -325,10 +325,108 @@ no-calls : (seed code : ℕ) (key iv area : List ℕ) → (seed ≡ 0 → ⊥) �
 unfolding generatedCalls runCalls
 no-calls seed code key iv area z = passed seed 0 code key iv area z (omega arith) ∙ same-lines (setUp code key iv area)
 
-repeated : (seed count code : ℕ) (key iv area area′ : List ℕ) → length area ≡ length area′
+never-near : (seed m count : ℕ) → m ≤ count → count ≤ 1000 → endOfCalls 0 (take m (generatedCalls seed count)) ≤ 260095
+never-near seed m count l h = rw (beginning seed m count l) (omega (arith, ends-most seed m 0 4095 (omega arith) (omega arith)))
+
+-- ── from two engines ──
+
+same-load : (seed count code : ℕ) (key iv area area′ : List ℕ) → length area ≡ length area′
     → testLoad seed count code key iv area ≡ testLoad seed count code key iv area′
-repeated seed count code key iv area area′ q =
+same-load seed count code key iv area area′ q =
     load-lines seed count code key iv area ∙ rw q (sym (load-lines seed count code key iv area′))
+
+same-refusal : {A : Type 0} (old old′ : A) (r : Result A) → outcome old r .refusal ≡ outcome old′ r .refusal
+same-refusal old old′ (refused n) = refl
+same-refusal old old′ (accepted x) = refl
+
+module _ (e e′ : Engine) (seed count code : ℕ) (key iv : List ℕ) (q : length (e .area) ≡ length (e′ .area)) where
+  same-answer : answered e (call-test-load seed count code key iv) ≡ answered e′ (call-test-load seed count code key iv)
+  unfolding answered testLoadCall
+  same-answer =
+      same-refusal (engineOf (e .head) (e .area)) (engineOf (e′ .head) (e′ .area)) (testLoad seed count code key iv (e .area))
+      ∙ ap (λ (r : Result Engine). outcome (engineOf (e′ .head) (e′ .area)) r .refusal) (same-load seed count code key iv (e .area) (e′ .area) q)
+
+  same-engine : answered e (call-test-load seed count code key iv) ≡ 0
+      → called e (call-test-load seed count code key iv) ≡ called e′ (call-test-load seed count code key iv)
+  unfolding called testLoadCall
+  same-engine z =
+      let (x, a) = accepted-0 e seed count code key iv z in
+      ap (λ (r : Result Engine). outcome (engineOf (e .head) (e .area)) r .value) a
+      ∙ ap (λ (r : Result Engine). outcome (engineOf (e′ .head) (e′ .area)) r .value)
+      (sym (sym (same-load seed count code key iv (e .area) (e′ .area) q) ∙ a))
+
+-- ── inside a list ──
+
+run-on : (first second : List Call) (e : Engine) → run (first ++ second) e ≡ run second (run first e)
+unfolding run
+run-on [] second e = refl
+run-on (call ∷ first) second e = run-on first second (called e call)
+
+account-on : (size : ℕ) (first second : List Call) (a : Account) → account size (first ++ second) a ≡ account size second (account size first a)
+unfolding account
+account-on size [] second a = refl
+account-on size (call ∷ first) second a = account-on size first second (feed size a call)
+
+reached-on : (size : ℕ) (first second : List Call) (a : Account) (reached : List ℕ)
+    → reachedSince size (first ++ second) a reached ≡ reachedSince size second (account size first a) (reachedSince size first a reached)
+unfolding account reachedSince
+reached-on size [] second a reached = refl
+reached-on size (call ∷ first) second a reached = reached-on size first second (feed size a call) (reachedBy size a reached call)
+
+calls-given : (calls : List GeneratedCall) (p : ℕ) → AllGiven (asCalls p calls)
+unfolding asCalls
+calls-given [] p = tt
+calls-given (move-to byte ∷ calls) p = (tt, calls-given calls byte)
+calls-given (cipher-zeros n ∷ calls) p = (tt, calls-given calls (p + n))
+
+module _ (before after : List Call) (area : List ℕ) (seed count code : ℕ) (key iv : List ℕ) (g : AllGiven before) (kb : AllBytes key) (vb : AllBytes iv)
+    (z : answered (engineAfter before area) (call-test-load seed count code key iv) ≡ 0) where
+  abbrev size : ℕ
+  size = length area
+
+  abbrev load : Call
+  load = call-test-load seed count code key iv
+
+  abbrev in-its-place : List Call
+  in-its-place = setUpAndCalls seed count code key iv
+
+  those : (called (engineAfter before area) load ≡ run in-its-place (engineAfter before area))
+      × (feed size (accountAfter before area) load ≡ account size in-its-place (accountAfter before area))
+      × (reachedBy size (accountAfter before area) (reachedAfter before area) load
+      ≡ reachedSince size in-its-place (accountAfter before area) (reachedAfter before area))
+  those =
+      subst
+      (λ (n : ℕ). (called (engineAfter before area) load ≡ run in-its-place (engineAfter before area))
+      × (feed n (accountAfter before area) load ≡ account n in-its-place (accountAfter before area))
+      × (reachedBy n (accountAfter before area) (reachedAfter before area) load
+      ≡ reachedSince n in-its-place (accountAfter before area) (reachedAfter before area)))
+      (agree before g area .sized)
+      (those-calls (engineAfter before area) seed count code key iv kb vb z (accountAfter before area) (reachedAfter before area))
+
+  engine-in : engineAfter (before ++ (load ∷ after)) area ≡ engineAfter (before ++ (in-its-place ++ after)) area
+  unfolding run
+  engine-in =
+      run-on before (load ∷ after) _
+      ∙ ap (run after) (those .0)
+      ∙ sym (run-on in-its-place after _)
+      ∙ sym (run-on before (in-its-place ++ after) _)
+
+  account-in : accountAfter (before ++ (load ∷ after)) area ≡ accountAfter (before ++ (in-its-place ++ after)) area
+  unfolding account
+  account-in =
+      account-on size before (load ∷ after) _
+      ∙ ap (account size after) (those .1)
+      ∙ sym (account-on size in-its-place after _)
+      ∙ sym (account-on size before (in-its-place ++ after) _)
+
+  farthest-in : farthestAfter (before ++ (load ∷ after)) area ≡ farthestAfter (before ++ (in-its-place ++ after)) area
+  unfolding reachedSince
+  farthest-in =
+      ap largest
+      (reached-on size before (load ∷ after) _ _
+      ∙ ap₂ (reachedSince size after) (those .1) (those .2)
+      ∙ sym (reached-on size in-its-place after _ _)
+      ∙ sym (reached-on size before (in-its-place ++ after) _ _))
 
 pub test-load : TestLoad
 unfolding nextWord callOf generatedCalls endOfCalls endsOfCiphers largest
@@ -350,9 +448,17 @@ test-load = record {
   account-is = λ size seed count a reached c key iv z l pair y.
       (fed seed count c key iv z l pair size y a, reaches seed count c key iv z l pair size y a reached);
   refused-leaves = λ e a reached seed count code key iv. left e a reached seed count code key iv (testLoad seed count code key iv (e .area)) refl;
-  position-most = λ seed n. ends-most seed n 0 4095 (omega arith) (omega arith);
+  in-a-list = λ before after area seed count code key iv g kb vb z. (
+    engine-in before after area seed count code key iv g kb vb z,
+    account-in before after area seed count code key iv g kb vb z,
+    farthest-in before after area seed count code key iv g kb vb z,
+  );
+  all-given = λ seed count code key iv kb vb. ((kb, vb), calls-given (generatedCalls seed count) 0);
+  position-most = λ seed count. ends-most seed count 0 4095 (omega arith) (omega arith);
+  mark-most = λ seed count. reach-most seed count 0 4095 (omega arith) (omega arith);
   beginning = beginning;
-  repeated = repeated;
+  never-near = never-near;
+  repeated = λ e e′ seed count code key iv q. (same-answer e e′ seed count code key iv q, same-engine e e′ seed count code key iv q);
   no-calls = no-calls;
   from-0 = refl;
   from-1 = refl;
@@ -363,4 +469,8 @@ test-load = record {
   first-even = refl;
   five-end = refl;
   six-end = (refl, refl);
+  no-bytes = refl;
+  no-bytes-end = (refl, refl);
+  back = refl;
+  back-end = (refl, refl);
 }

@@ -49,7 +49,8 @@ reachedBy size a reached (call-test-load seed count code key iv) =
     unless-refused reached (seedAndCount seed count >> setUpCheck code (length key) (length iv) size)
     (λ c. reachedByGenerated size (holds (atStart c key iv)) (0 ∷ []) (generatedCalls seed count))
 
--- where the last accepted set up or load of a list started, and the ends of the accepted cipher calls since then, last first
+-- where the last accepted set up or load of a list started, and the ends of the accepted cipher calls since then, last first; a test load is its set up
+-- and its generated calls
 unfoldable pub reachedSince : ℕ → List Call → Account → List ℕ → List ℕ
 reachedSince size [] a reached = reached
 reachedSince size (call ∷ calls) a reached = reachedSince size calls (feed size a call) (reachedBy size a reached call)

@@ -61,8 +61,8 @@ pub record HeadMark : Type 0 where
   pub recover-leaves : (h : Head) (area key iv : List ℕ) (r : Recovered) → recover h area key iv ≡ accepted r → r .engine .head ≡ h
   -- 'In a head that the caller made up, the mark is taken as given': spent gives it as it is, ..
   pub spent-gives : (h : Head) (n : Counted) → spent h ≡ accepted n → n ≡ record { head = h; count = h .mark }
-  -- .. and what a call answers and leaves is, but for the mark, the same for every mark. So a checkpoint has nothing of it. Set up and load read
-  -- nothing of the head.
+  -- .. and what a call answers and leaves is, but for the mark, the same for every mark. So a checkpoint has nothing of it. Set up, load and the test
+  -- load read nothing of the head; the mark that a test load leaves is in `leaves` of TestLoad.
   pub cipher-as-given :
       (h : Head) (mark : ℕ) (area bytes : List ℕ) → SameCiphered (cipherCall h area bytes) (cipherCall (withMark h mark) area bytes)
   pub encipher-as-given :

@@ -1,7 +1,7 @@
 -- Document 02 (h), a test load that can be repeated: each generated call is accepted; the checkpoint at the end is the one of that cipher, key, IV and
 -- the position counted from the words alone; for the account and the mark the load is the set up and the generated calls; and each refusal.
 use mathlib.Core.Path.{_≡_}
-use mathlib.Core.List.{List, [], _∷_}
+use mathlib.Core.List.{List, [], _∷_, _++_}
 use mathlib.Core.Logic.{_↔_}
 use Prim.Native.Nat.{ℕ, _+_, _*_, _≤_, _<_}
 use lib.ListN.{length, take, replicate}
@@ -15,8 +15,8 @@ use Rattle.engine.specs.Calls.{Engine, Written, setUp, write, spent}
 use Rattle.move_to.specs.MoveTo.{distance}
 use Rattle.test_load.specs.Words.{nextWord, GeneratedCall, move-to, cipher-zeros, generatedCalls}
 use Rattle.test_load.specs.TestLoad.{testLoad}
-use Rattle.theorems.specs.Account.{Call, call-set-up, call-cipher, call-move, call-test-load, called, answered, run, Four, Account, holds, feed, account, engineOfFour, Checkpoint}
-use Rattle.theorems.specs.Farthest.{withEnd, reachedBy, reachedSince, largest}
+use Rattle.theorems.specs.Account.{Call, call-set-up, call-cipher, call-move, call-test-load, AllGiven, called, answered, run, Four, Account, holds, feed, account, engineAfter, accountAfter, engineOfFour, Checkpoint}
+use Rattle.theorems.specs.Farthest.{withEnd, reachedBy, reachedSince, largest, farthestAfter}
 use Rattle.theorems.specs.Demand3.{given}
 
 -- ── counted from the words alone ──
@@ -86,7 +86,8 @@ pub record TestLoad : Type 0 where
   pub accepted-only :
       (seed count code : ℕ) (key iv area : List ℕ) (e : Engine) → AllBytes key → AllBytes iv → testLoad seed count code key iv area ≡ accepted e
       → (seed ≡ 0 → ⊥) × (count ≤ 1000) × ((c : Cipher) × (code ≡ codeOf c) × Pair c key iv × (length area ≡ areaLength c))
-  -- 'Show that each generated call is accepted, ..': from every engine, the set up and then each call that the words give.
+  -- 'Show that each generated call is accepted, ..': from every engine, the set up and then each call that the words give. That the load leaves what
+  -- these calls leave is `as-those-calls`.
   pub each-accepted :
       (e : Engine) (seed count code : ℕ) (key iv : List ℕ) → AllBytes key → AllBytes iv
       → answered e (call-test-load seed count code key iv) ≡ 0 → EachAccepted e (setUpAndCalls seed count code key iv)
@@ -113,6 +114,15 @@ pub record TestLoad : Type 0 where
       × (feed (length (e .area)) a (call-test-load seed count code key iv) ≡ account (length (e .area)) (setUpAndCalls seed count code key iv) a)
       × (reachedBy (length (e .area)) a reached (call-test-load seed count code key iv)
       ≡ reachedSince (length (e .area)) (setUpAndCalls seed count code key iv) a reached)
+  -- .. also inside a list, whatever calls come before it and after it: the list in which they stand in its place comes to the same; ..
+  pub in-a-list :
+      (before after : List Call) (area : List ℕ) (seed count code : ℕ) (key iv : List ℕ) → AllGiven before → AllBytes key → AllBytes iv
+      → answered (engineAfter before area) (call-test-load seed count code key iv) ≡ 0
+      → let load = before ++ (call-test-load seed count code key iv ∷ after) in
+      let calls = before ++ (setUpAndCalls seed count code key iv ++ after) in
+      (engineAfter load area ≡ engineAfter calls area) × (accountAfter load area ≡ accountAfter calls area)
+      × (farthestAfter load area ≡ farthestAfter calls area)
+  pub all-given : (seed count code : ℕ) (key iv : List ℕ) → AllBytes key → AllBytes iv → AllGiven (setUpAndCalls seed count code key iv)
   -- .. so that the account is the four, and the farthest byte the one that is counted from the words alone; ..
   pub account-is :
       (size seed count : ℕ) (a : Account) (reached : List ℕ) (c : Cipher) (key iv : List ℕ) → (seed ≡ 0 → ⊥) → count ≤ 1000 → Pair c key iv
@@ -125,14 +135,19 @@ pub record TestLoad : Type 0 where
       → (answered e (call-test-load seed count code key iv) ≡ 0 → ⊥)
       → (called e (call-test-load seed count code key iv) ≡ e) × (feed (length (e .area)) a (call-test-load seed count code key iv) ≡ a)
       × (reachedBy (length (e .area)) a reached (call-test-load seed count code key iv) ≡ reached)
-  -- The limit is never near: after n calls the position is at most 256 bytes for each of them and 4,095, so that after each of 1,000 calls it is at
-  -- most 260,095. The calls of a shorter load are the first ones of a longer one.
-  pub position-most : (seed n : ℕ) → positionAfter seed n ≤ 256 * n + 4095
-  pub beginning : (seed m n : ℕ) → m ≤ n → generatedCalls seed m ≡ take m (generatedCalls seed n)
-  -- 'Two benches must put the same strain on a box': head and area from before, but for the area's size, do not matter.
+  -- The limit is never near: after so many calls position and mark are at most 256 bytes for each of them and 4,095. So after each of the calls of a
+  -- load, which are the first ones of every longer load, the position is at most 260,095.
+  pub position-most : (seed count : ℕ) → positionAfter seed count ≤ 256 * count + 4095
+  pub mark-most : (seed count : ℕ) → markAfterLoad seed count ≤ 256 * count + 4095
+  pub beginning : (seed m count : ℕ) → m ≤ count → take m (generatedCalls seed count) ≡ generatedCalls seed m
+  pub never-near : (seed m count : ℕ) → m ≤ count → count ≤ 1000 → endOfCalls 0 (take m (generatedCalls seed count)) ≤ 260095
+  -- A load that can be repeated: from two engines, whatever their heads and areas held before, with areas of one size, it gets the same answer, and
+  -- where it is accepted it leaves the same head and tables.
   pub repeated :
-      (seed count code : ℕ) (key iv area area′ : List ℕ) → length area ≡ length area′
-      → testLoad seed count code key iv area ≡ testLoad seed count code key iv area′
+      (e e′ : Engine) (seed count code : ℕ) (key iv : List ℕ) → length (e .area) ≡ length (e′ .area)
+      → (answered e (call-test-load seed count code key iv) ≡ answered e′ (call-test-load seed count code key iv))
+      × (answered e (call-test-load seed count code key iv) ≡ 0
+      → called e (call-test-load seed count code key iv) ≡ called e′ (call-test-load seed count code key iv))
   -- A load of no calls is the set up.
   pub no-calls : (seed code : ℕ) (key iv area : List ℕ) → (seed ≡ 0 → ⊥) → testLoad seed 0 code key iv area ≡ setUp code key iv area
   -- From 0 every word would be 0. Some words, calls, positions and marks:
@@ -147,3 +162,8 @@ pub record TestLoad : Type 0 where
   pub first-even : generatedCalls 2 1 ≡ move-to 33 ∷ []
   pub five-end : positionAfter 1 5 ≡ 823
   pub six-end : (positionAfter 1 6 ≡ 3560) × (markAfterLoad 1 6 ≡ 823)
+  -- a cipher call over no bytes beyond the mark, and a move back behind it
+  pub no-bytes : generatedCalls 290 2 ≡ move-to 920 ∷ cipher-zeros 0 ∷ []
+  pub no-bytes-end : (positionAfter 290 2 ≡ 920) × (markAfterLoad 290 2 ≡ 0)
+  pub back : generatedCalls 272 2 ≡ cipher-zeros 175 ∷ move-to 161 ∷ []
+  pub back-end : (positionAfter 272 2 ≡ 161) × (markAfterLoad 272 2 ≡ 175)
