@@ -12,6 +12,7 @@ pub mod Conditions
 pub mod Checkpoints
 pub mod Names
 pub mod Writes
+pub mod NextWord
 pub mod GeneratedCalls
 pub mod Agree
 pub mod Encipher

@@ -28,6 +28,7 @@ use Rattle.theorems.specs.Demand1.{AcceptedOrRefused}
 use Rattle.theorems.specs.Demand3.{given}
 use Rattle.theorems.specs.TestLoad.{endOfCalls, endsOfCiphers, positionAfter, markAfterLoad, fourAfter, asCalls, setUpAndCalls, EachAccepted, TestLoad}
 use Rattle.theorems.proofs.Conditions.{set-up-shows}
+use Rattle.theorems.proofs.NextWord.{word-fits, not-0}
 use Rattle.theorems.proofs.Demand1.{demand1}
 use Rattle.theorems.proofs.Demand2.{four-set-up}
 use Rattle.theorems.proofs.Demand3.{four-write-shows}
@@ -460,7 +461,8 @@ test-load = record {
   never-near = never-near;
   repeated = λ e e′ seed count code key iv q. (same-answer e e′ seed count code key iv q, same-engine e e′ seed count code key iv q);
   no-calls = no-calls;
-  from-0 = refl;
+  word-fits = word-fits;
+  word-0 = λ x l. (not-0 x l, (λ e. rw e));
   from-1 = refl;
   from-2 = refl;
   from-highest = refl;

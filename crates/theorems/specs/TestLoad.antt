@@ -3,7 +3,7 @@
 use mathlib.Core.Path.{_≡_}
 use mathlib.Core.List.{List, [], _∷_, _++_}
 use mathlib.Core.Logic.{_↔_}
-use Prim.Native.Nat.{ℕ, _+_, _*_, _≤_, _<_}
+use Prim.Native.Nat.{ℕ, _+_, _*_, _^_, _≤_, _<_}
 use lib.ListN.{length, take, replicate}
 use Rattle.laws.specs.Result.{refused, accepted}
 use Rattle.word.specs.Bytes.{AllBytes}
@@ -150,8 +150,10 @@ pub record TestLoad : Type 0 where
       → called e (call-test-load seed count code key iv) ≡ called e′ (call-test-load seed count code key iv))
   -- A load of no calls is the set up.
   pub no-calls : (seed code : ℕ) (key iv area : List ℕ) → (seed ≡ 0 → ⊥) → testLoad seed 0 code key iv area ≡ setUp code key iv area
-  -- From 0 every word would be 0. Some words, calls, positions and marks:
-  pub from-0 : nextWord 0 ≡ 0
+  -- A new word has 32 bits, and it is 0 exactly where it comes from 0: from a seed of 0 every word would be 0, and from another seed none is.
+  pub word-fits : (x : ℕ) → x < 2 ^ 32 → nextWord x < 2 ^ 32
+  pub word-0 : (x : ℕ) → x < 2 ^ 32 → (nextWord x ≡ 0) ↔ (x ≡ 0)
+  -- Some words, calls, positions and marks.
   pub from-1 : nextWord 1 ≡ 0x00042021
   pub from-2 : nextWord 2 ≡ 0x00084042
   pub from-highest : nextWord 0x80000000 ≡ 0x80084000
