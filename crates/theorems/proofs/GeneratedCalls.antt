@@ -21,12 +21,13 @@ use Rattle.setup.specs.SetUp as SetUp
 use Rattle.conditions.specs.Conditions.{setUpCheck, cipherCheck}
 use Rattle.conditions.proofs.Conditions.{ready-accepted}
 use Rattle.engine.specs.Head.{markAfter}
-use Rattle.engine.specs.Calls.{Engine, engineAt, setUp, cipher, cipherCall, move, moveCall}
+use Rattle.keystream.specs.Keystream.{ciphered}
+use Rattle.engine.specs.Calls.{Engine, Ciphered, engineAt, setUp, cipher, cipherCall, move, moveCall}
 use Rattle.move_to.specs.MoveTo.{distance, moveTo}
 use Rattle.move_to.proofs.Moves.{ends-at}
 use Rattle.test_load.specs.Words.{nextWord, GeneratedCall, move-to, cipher-zeros, callOf, generatedCalls}
 use Rattle.test_load.specs.TestLoad.{runCall, runCalls, seedAndCount, testLoad}
-use Rattle.theorems.specs.Account.{called, answered, run, Four, IsFour, Account, holds, atPosition, atStart, feedCipher, feedMove, feedGenerated, feed, account, tablesOf, engineOfFour}
+use Rattle.theorems.specs.Account.{called, answered, run, Four, IsFour, Account, holds, accountReady, atPosition, atStart, feedCipher, feedMove, feedGenerated, feed, account, tablesOf, engineOfFour}
 use Rattle.theorems.specs.Farthest.{withEnd, reachedByCipher, reachedByGenerated, reachedBy, reachedSince, largest}
 use Rattle.theorems.specs.TestLoad.{endOfCall, endOfCalls, endsOfCiphers, asCalls, EachAccepted}
 use Rattle.theorems.proofs.Tables.{four-true, four-moved}
@@ -170,12 +171,14 @@ module _ (f : Four) (mark n : ℕ) (h : IsFour f) (l : f .position + n ≤ limit
   abbrev zeros : List ℕ
   zeros = replicate n 0
 
-  cipher-zero : cipherCall (engineOfFour f mark .head) (tablesOf f) zeros .refusal ≡ 0
-  unfolding cipherCall cipher cipherCheck
-  cipher-zero = rw (four-true f (tablesOf f) _ h refl refl, length-replicate {A = ℕ} n 0, le-leb (f .position + n) limit l)
+  -- what a cipher call over n zero bytes leaves
+  abbrev left : Ciphered
+  left = record {
+    engine = engineOfFour (atPosition f (f .position + n)) (markAfter mark (f .position + n) n);
+    bytes = ciphered (f .cipher) (tablesOf f) (f .position) zeros;
+  }
 
-  ciphered-four : cipherCall (engineOfFour f mark .head) (tablesOf f) zeros .value .engine
-      ≡ engineOfFour (atPosition f (f .position + n)) (markAfter mark (f .position + n) n)
+  ciphered-four : cipherCall (engineOfFour f mark .head) (tablesOf f) zeros ≡ record { refusal = 0; value = left }
   unfolding cipherCall cipher cipherCheck
   ciphered-four =
       rw (four-true f (tablesOf f) _ h refl refl, length-replicate {A = ℕ} n 0, le-leb (f .position + n) limit l, four-moved f (f .position + n) h)
@@ -194,7 +197,7 @@ runs-to (move-to byte ∷ calls) f mark h s =
     ∙ runs-to calls (atPosition f byte) mark (moved-is f byte h (s .0)) (s .1)
 runs-to (cipher-zeros n ∷ calls) f mark h s =
     let q = f .position + n in
-    ap (runCalls calls) (ciphered-four f mark n h (s .0))
+    ap (λ (o : Outcome Ciphered). runCalls calls (o .value .engine)) (ciphered-four f mark n h (s .0))
     ∙ runs-to calls (atPosition f q) (markAfter mark q n) (moved-is f q h (s .0)) (s .1)
     ∙ ap (engineOfFour (atPosition f (endOfCalls q calls))) (mark-before n mark q (endsOfCiphers q calls))
 
@@ -209,9 +212,10 @@ each-of (move-to byte ∷ calls) f mark h s =
       rw (ap (λ (o : Outcome Engine). o .value) m) (each-of calls (atPosition f byte) mark (moved-is f byte h (s .0)) (s .1)),
     )
 each-of (cipher-zeros n ∷ calls) f mark h s =
-    let q = f .position + n in (
-      cipher-zero f mark n h (s .0),
-      rw (ciphered-four f mark n h (s .0)) (each-of calls (atPosition f q) (markAfter mark q n) (moved-is f q h (s .0)) (s .1)),
+    let q = f .position + n in
+    let m = ciphered-four f mark n h (s .0) in (
+      ap (λ (o : Outcome Ciphered). o .refusal) m,
+      rw (ap (λ (o : Outcome Ciphered). o .value .engine) m) (each-of calls (atPosition f q) (markAfter mark q n) (moved-is f q h (s .0)) (s .1)),
     )
 
 pub run-as : (calls : List GeneratedCall) (f : Four) (mark : ℕ) → IsFour f → Stay (f .position) calls
@@ -223,7 +227,7 @@ run-as (move-to byte ∷ calls) f mark h s =
     ap (runCalls calls) m ∙ run-as calls (atPosition f byte) mark (moved-is f byte h (s .0)) (s .1) ∙ ap (run (asCalls byte calls)) (sym m)
 run-as (cipher-zeros n ∷ calls) f mark h s =
     let q = f .position + n in
-    let m = ciphered-four f mark n h (s .0) in
+    let m = ap (λ (o : Outcome Ciphered). o .value .engine) (ciphered-four f mark n h (s .0)) in
     ap (runCalls calls) m ∙ run-as calls (atPosition f q) (markAfter mark q n) (moved-is f q h (s .0)) (s .1) ∙ ap (run (asCalls q calls)) (sym m)
 
 -- ── from the account of a four, where the area has its cipher's size ──
@@ -236,19 +240,20 @@ module _ (size : ℕ) where
       let c = f .cipher in
       rw (move-accepted _ c p (distance p byte) byte (ready-accepted (codeOf c) p size c (code-of c) z (h .within)) (ends-at p byte) l)
 
-  fed-cipher : (f : Four) (n : ℕ) → IsFour f → size ≡ areaLength (f .cipher) → f .position + n ≤ limit
-      → feedCipher size (holds f) n ≡ holds (atPosition f (f .position + n))
+  cipher-checked : (f : Four) (n : ℕ) → IsFour f → size ≡ areaLength (f .cipher) → f .position + n ≤ limit
+      → cipherCheck (accountReady size (holds f)) (f .position) n ≡ accepted (f .cipher)
   unfolding cipherCheck
-  fed-cipher f n h z l =
+  cipher-checked f n h z l =
       let c = f .cipher in
       rw (ready-accepted (codeOf c) (f .position) size c (code-of c) z (h .within), le-leb (f .position + n) limit l)
 
+  fed-cipher : (f : Four) (n : ℕ) → IsFour f → size ≡ areaLength (f .cipher) → f .position + n ≤ limit
+      → feedCipher size (holds f) n ≡ holds (atPosition f (f .position + n))
+  fed-cipher f n h z l = rw (cipher-checked f n h z l)
+
   reached-cipher : (f : Four) (n : ℕ) (reached : List ℕ) → IsFour f → size ≡ areaLength (f .cipher) → f .position + n ≤ limit
       → reachedByCipher size (holds f) reached n ≡ withEnd n (f .position + n) reached
-  unfolding cipherCheck
-  reached-cipher f n reached h z l =
-      let c = f .cipher in
-      rw (ready-accepted (codeOf c) (f .position) size c (code-of c) z (h .within), le-leb (f .position + n) limit l)
+  reached-cipher f n reached h z l = rw (cipher-checked f n h z l)
 
   pub fed-to : (calls : List GeneratedCall) (f : Four) → IsFour f → size ≡ areaLength (f .cipher) → Stay (f .position) calls
       → feedGenerated size (holds f) calls ≡ holds (atPosition f (endOfCalls (f .position) calls))
