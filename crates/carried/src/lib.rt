@@ -1,4 +1,6 @@
 // The five indices of a step carried from step to step, and a step taken with them.
+#![tactic(auto)]
+
 ghost use Rattle.std.specs.Prelude.{◌≡◌, ◌+◌, ◌%◌, ◌^◌, ◌<◌, length};
 ghost use Rattle.cipher.specs.declared.Cipher.TheVariants.{Hc256};
 ghost use Rattle.cipher.specs.Numbers.{table_length, area_length};

@@ -1,16 +1,18 @@
 // The two ciphers and their numbers, one row each.
+#![tactic(auto)]
+
 ghost use Rattle.std.specs.Prelude.{◌≡◌, ◌≤◌};
 ghost use Rattle.cipher.specs.Numbers as Numbers;
 ghost use Rattle.cipher.specs.Answers.{cipher_is};
 
-#[derive(Drop)]
+#[derive(Clone, Copy)]
 pub enum Cipher {
     Hc128,
     Hc256,
 }
 
 // The numbers of a cipher: its code, the words of a table (T), the bytes of a key and of an IV, and the words of the expansion.
-#[derive(Drop)]
+#[derive(Clone, Copy)]
 pub struct Row {
     pub code: u8,
     pub table: usize,
@@ -47,7 +49,7 @@ pub fn row_of(cipher: Cipher) -> Row
 }
 
 // The cipher of a code.
-#[derive(Drop)]
+#[derive(Clone, Copy)]
 pub enum Known {
     Is(Cipher),
     Unknown,

@@ -1,6 +1,8 @@
 // The blender's log against the tank gauge's: two recordings of one run. Both are checked first, the blender's first. Where both are volumes, they
 // are gone through entry by entry up to the first place where they don't have the same entry, and the bytes of one of them from there to its end are
 // handed back.
+#![tactic(auto)]
+
 ghost use Rattle.std.specs.Prelude.{◌≡◌, ◌≤◌, length};
 ghost use Rattle.comparison.specs.Comparison as Comparison;
 ghost use Rattle.comparison.specs.Parts as Parts;
@@ -10,7 +12,7 @@ use volume::Entry;
 use volume::reading::{CountFound, count_entries, read_entry};
 
 // Part of one of the two buffers: so many bytes of it, from byte `from` on.
-#[derive(Drop)]
+#[derive(Clone, Copy)]
 pub enum Part {
     Blender { from: usize, length: usize },
     Gauge { from: usize, length: usize },
@@ -18,7 +20,7 @@ pub enum Part {
 
 // The part for C: recording 0 is the blender's, 1 the gauge's.
 #[repr(C)]
-#[derive(Drop)]
+#[derive(Clone, Copy)]
 pub struct PartAnswer {
     pub recording: u64,
     pub from: usize,

@@ -1,4 +1,6 @@
 // The calls of the comparison for C, which has no slices to hand back: it gets the recording, the byte and the length.
+#![tactic(auto)]
+
 ghost use Rattle.std.specs.Prelude.{◌≡◌};
 ghost use Rattle.comparison.specs.Comparison as Comparison;
 

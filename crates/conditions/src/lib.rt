@@ -1,6 +1,8 @@
 // Conditions of the calls, in the documents' order: those of set up; 1, 4, 5 and 13, which cipher, move, write and recover begin with; 1 and 5, those of
 // a head alone; the end of a move, 7 and 6; those of load up to 11, with an area and without. Each gives the refusal number of the first that fails, or
 // what the call then works with. The other conditions are tested in the calls.
+#![tactic(auto)]
+
 ghost use Rattle.std.specs.Prelude.{◌≡◌, ◌≤◌};
 ghost use Rattle.conditions.specs.Limit.{limit};
 ghost use Rattle.conditions.specs.Conditions as Conditions;
@@ -12,7 +14,7 @@ use cipher::{Cipher, Known};
 pub const LIMIT: u64 = 67_108_864;
 
 // The result of a call's conditions: the refusal number, 0 where they hold, and then the cipher.
-#[derive(Drop)]
+#[derive(Clone, Copy)]
 pub struct Checked {
     pub refusal: u64,
     pub cipher: Cipher,
@@ -105,7 +107,7 @@ pub fn head_check(code: u32, position: u64) -> Checked
 }
 
 // A signed distance: n bytes on, or n + 1 bytes back.
-#[derive(Drop)]
+#[derive(Clone, Copy)]
 pub enum Distance {
     Forward(u64),
     Back(u64),
@@ -122,7 +124,7 @@ fn split_distance(distance: i64) -> Distance
 }
 
 // The end of a move: the refusal number, 0 where there is none, and then the position.
-#[derive(Drop)]
+#[derive(Clone, Copy)]
 pub struct End {
     pub refusal: u64,
     pub position: u64,
@@ -186,7 +188,7 @@ fn cipher_in(string: &[u8]) -> Checked
 
 // What a checkpoint begins with, once the conditions of load up to 11 hold, 4 only where there is an area: its cipher and position, and where its
 // words begin.
-#[derive(Drop)]
+#[derive(Clone, Copy)]
 pub struct Beginning {
     pub refusal: u64,
     pub cipher: Cipher,

@@ -1,5 +1,7 @@
 // The box's interface, for C: the seven calls on the caller's own head, and the length of a checkpoint. Each of the seven takes the head by mutable
 // reference, hands a copy to the engine's call and stores the head that comes back. There is no state but what the caller lends.
+#![tactic(auto)]
+
 ghost use Rattle.std.specs.Prelude.{◌≡◌};
 ghost use Rattle.engine.specs.Answers as Answers;
 ghost use Rattle.engine.specs.Calls as Calls;

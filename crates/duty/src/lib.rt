@@ -1,4 +1,6 @@
 // The component duty on a shift volume under a table of rates. A refused volume gives its number, and 0 cents.
+#![tactic(auto)]
+
 ghost use Rattle.std.specs.Prelude.{◌≡◌, ◌≤◌, length};
 ghost use Rattle.rates.specs.Rates.{rate_of};
 ghost use Rattle.duty.specs.Duty as Duty;
@@ -9,7 +11,7 @@ use volume::Entry;
 
 // The answer: the refusal number, 0 where the volume is accepted, and the duty in whole cents, 0 where it is refused.
 #[repr(C)]
-#[derive(Drop)]
+#[derive(Clone, Copy)]
 pub struct DutyAnswer {
     pub refusal: u64,
     pub cents: u64,

@@ -1,5 +1,7 @@
 // The duty's part of the box's interface, for C. It is compiled apart from the calls that read a volume: in one module, where the check of an entry has
 // two callers, both are slower.
+#![tactic(auto)]
+
 ghost use Rattle.std.specs.Prelude.{◌≡◌};
 ghost use Rattle.duty.specs.Calls as Calls;
 

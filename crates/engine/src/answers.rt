@@ -4,7 +4,7 @@ use crate::Head;
 
 // The answer of write and of checkpoint length: the checkpoint's length.
 #[repr(C)]
-#[derive(Drop)]
+#[derive(Clone, Copy)]
 pub struct LengthAnswer {
     pub refusal: u64,
     pub length: usize,
@@ -12,7 +12,7 @@ pub struct LengthAnswer {
 
 // The answer of load: the key and the IV as eight words each, unused words 0.
 #[repr(C)]
-#[derive(Drop)]
+#[derive(Clone, Copy)]
 pub struct LoadAnswer {
     pub refusal: u64,
     pub key: [u32; 8],
@@ -21,35 +21,35 @@ pub struct LoadAnswer {
 
 // The answer of spent: the count.
 #[repr(C)]
-#[derive(Drop)]
+#[derive(Clone, Copy)]
 pub struct SpentAnswer {
     pub refusal: u64,
     pub count: u64,
 }
 
 // What set up, cipher, encipher volume, move and recover hand back: the refusal number and the next head.
-#[derive(Drop)]
+#[derive(Clone, Copy)]
 pub struct Done {
     pub refusal: u64,
     pub head: Head,
 }
 
 // What write hands back.
-#[derive(Drop)]
+#[derive(Clone, Copy)]
 pub struct WriteDone {
     pub answer: LengthAnswer,
     pub head: Head,
 }
 
 // What load hands back.
-#[derive(Drop)]
+#[derive(Clone, Copy)]
 pub struct LoadDone {
     pub answer: LoadAnswer,
     pub head: Head,
 }
 
 // What spent hands back.
-#[derive(Drop)]
+#[derive(Clone, Copy)]
 pub struct SpentDone {
     pub answer: SpentAnswer,
     pub head: Head,

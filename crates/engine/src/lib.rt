@@ -1,6 +1,8 @@
 // The engine: a head and its table area, the seven calls of document 01, the enciphering of a volume, and the length of a checkpoint. All but the
 // last receive the head and hand back the next one beside their answer. A refused call gives its number, and head, area and every lent byte keep
 // their values.
+#![tactic(auto)]
+
 ghost use Rattle.std.specs.Prelude.{◌≡◌, replicate};
 ghost use Rattle.engine.specs.Head as Heads;
 ghost use Rattle.engine.specs.Calls as Calls;
@@ -13,7 +15,7 @@ use answers::{Done, LengthAnswer, LoadAnswer, LoadDone, SpentAnswer, SpentDone, 
 // The head: cipher code; the word we are inside, which is the output of the step last taken and 0 at position 0; position; and the mark, which is the
 // farthest byte that a cipher call reached since the last set up or load. The order needs no padding. Heads are made by the constructors below.
 #[repr(C)]
-#[derive(Drop)]
+#[derive(Clone, Copy)]
 pub struct Head {
     pub code: u32,
     pub word: u32,

@@ -1,4 +1,6 @@
 // The examples of documents 01 and 02 that are run, their edges, and every refusal of every call: a line each, `ok` or `wrong`.
+#![tactic(auto)]
+
 mod compare;
 mod lengths;
 mod line;

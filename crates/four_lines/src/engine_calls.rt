@@ -7,7 +7,7 @@ use sharing::ShareAccount;
 
 // Set up with a code; load of so many bytes of the checkpoint that the head writes; move by so many bytes; test load of three calls from a seed;
 // encipher volume, and cipher, of so many bytes.
-#[derive(Drop)]
+#[derive(Clone, Copy)]
 pub enum Call {
     SetUp(u32),
     Load(usize),

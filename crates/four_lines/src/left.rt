@@ -5,7 +5,7 @@ use engine::Head;
 use sharing::ShareAccount;
 
 // The number that a call got; head, account and area after it; and the bytes that it was lent.
-#[derive(Drop)]
+#[derive(Clone, Copy)]
 pub struct Left {
     pub refusal: u64,
     pub state: State,

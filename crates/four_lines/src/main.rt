@@ -1,5 +1,7 @@
 // The cases of document 02 (i), four lines on one stream, for both ciphers: a line each, `ok` or `wrong`. A line says from what head, area and share
 // account a call starts, what it is to get, and where it is accepted what it is to leave.
+#![tactic(auto)]
+
 use closings::{closes, no_closing};
 use draws::{draws, no_draw};
 use engine_calls::Call;

@@ -6,7 +6,7 @@ use engine::answers::Done;
 use sharing::ShareAccount;
 
 // A head, and what is added to its true word; a share account; and words of which the first, so many, are the area.
-#[derive(Drop)]
+#[derive(Clone, Copy)]
 pub struct State {
     pub head: Head,
     pub off: u32,

@@ -1,4 +1,6 @@
 // The functions g and h of the two ciphers, and with them the feedback and h(A[j-12]) by cipher, where P changes or Q.
+#![tactic(auto)]
+
 ghost use Rattle.std.specs.Prelude.{◌≡◌, ◌+◌, ◌≤◌, length};
 ghost use Rattle.word.specs.Word.{R, L};
 ghost use Rattle.cipher.specs.Numbers.{table_length, area_length};

@@ -6,7 +6,7 @@ use lab::Number;
 use libc::{STDERR_FILENO, STDOUT_FILENO};
 
 // The command line: how many words it has, the program's name among them, without the option, and whether the option is its last word.
-#[derive(Drop)]
+#[derive(Clone, Copy)]
 struct Line {
     words: usize,
     option: bool,
@@ -41,7 +41,7 @@ fn read_line(option: &[u8]) -> Line {
 }
 
 // A number of the command line: whether it is one, and which.
-#[derive(Drop)]
+#[derive(Clone, Copy)]
 struct Position {
     ok: bool,
     value: u64,
@@ -92,7 +92,7 @@ fn refuse(i: usize, refusal: u64) {
 
 // What is to be done with a key and an IV: the cipher, the position, and whether the checkpoint there is written or a log ciphered from there on,
 // with or without progress.
-#[derive(Drop)]
+#[derive(Clone, Copy)]
 struct Job {
     cipher: Cipher,
     position: u64,

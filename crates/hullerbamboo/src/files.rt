@@ -6,7 +6,7 @@ use crate::say;
 use libc::{STDIN_FILENO, STDOUT_FILENO};
 
 // What was read: whether the reading went well, and how many bytes are at the start of the buffer.
-#[derive(Drop)]
+#[derive(Clone, Copy)]
 pub struct Got {
     pub ok: bool,
     pub n: usize,

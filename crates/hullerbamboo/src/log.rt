@@ -39,7 +39,7 @@ fn since(from: u64, position: u64) -> u64 {
 }
 
 // What one turn of the loop leaves: whether to go on, and the head, which has passed the bytes that could not be written too.
-#[derive(Drop)]
+#[derive(Clone, Copy)]
 pub struct Turn {
     pub more: bool,
     pub head: Head,

@@ -1,4 +1,6 @@
 // The lab's program: logs and checkpoints of HC-128 and HC-256 at a bench. Each command is a task of the crate `lab`, with its files.
+#![tactic(auto)]
+
 mod commands;
 mod files;
 mod log;

@@ -1,4 +1,6 @@
 // Key and IV to W0..15, and back.
+#![tactic(auto)]
+
 ghost use Rattle.std.specs.Prelude.{◌≡◌, ◌+◌, ◌*◌, ◌/◌, ◌<◌, ◌≤◌, length, take, drop, get_or};
 ghost use Rattle.laws.specs.Same.{same};
 ghost use Rattle.word.specs.Bytes as Bytes;

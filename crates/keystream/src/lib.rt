@@ -1,4 +1,6 @@
 // The exclusive or of lent bytes with the keystream from any byte position.
+#![tactic(auto)]
+
 ghost use Rattle.std.specs.Prelude.{◌≡◌, ◌+◌, ◌*◌, ◌%◌, ◌^◌, ◌≤◌, ◌<◌, length};
 ghost use Rattle.cipher.specs.Numbers.{table_length, area_length};
 ghost use Rattle.tables.specs.Area.{changes_p, indices_at, Within};
@@ -55,7 +57,7 @@ fn finish_word(p: usize, w: u32, bytes: &mut [u8]) -> usize
 }
 
 // The five indices of the next step, and the last output.
-#[derive(Drop)]
+#[derive(Clone, Copy)]
 struct Next {
     five: Indices,
     last: u32,

@@ -1,5 +1,7 @@
 // What the program works out: words and numbers of its command line, and its tasks, which are calls of the engine one after the other. No input
 // and no output.
+#![tactic(auto)]
+
 ghost use Rattle.std.specs.Prelude.{◌≡◌, length};
 ghost use Rattle.engine.specs.Calls as Calls;
 ghost use Rattle.laws.specs.Same.{same};
@@ -20,7 +22,7 @@ pub fn same(a: &[u8], b: &[u8]) -> bool
 }
 
 // The commands of the program.
-#[derive(Drop)]
+#[derive(Clone, Copy)]
 pub enum Command {
     Cipher,
     Describe,
@@ -78,7 +80,7 @@ pub fn cipher_code(word: &[u8]) -> u32
 }
 
 // What a text is as a number.
-#[derive(Drop)]
+#[derive(Clone, Copy)]
 pub enum Number {
     Is(u64),
     Not,

@@ -1,4 +1,6 @@
 // Set-up's last pass over the filled area, and its inverse. Both go by runs, in which no index wraps, and by single changes between them.
+#![tactic(auto)]
+
 ghost use Rattle.std.specs.Prelude.{◌≡◌, ◌+◌, ◌-◌, ◌≤◌, ◌<◌, length, get_or};
 ghost use Rattle.laws.specs.Iterate.{forward, backward};
 ghost use Rattle.cipher.specs.Numbers.{area_length};

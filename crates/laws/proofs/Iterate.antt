@@ -15,7 +15,7 @@ module _ {A : Type 0} (P : A → Type 0) (f g : A → ℕ → A) where
   pub backward_kept : ((s : A) (i : ℕ) → P s → P (g s i)) → (s : A) (i n : ℕ) → P s → P (backward g s i n)
   unfolding backward
   backward_kept kept s i zero p = p
-  backward_kept kept s i (suc n) p = backward_kept kept _ i n (kept s (i + n) p)
+  backward_kept kept s i (suc n) p = backward_kept kept (g s (i + n)) i n (kept s (i + n) p)
 
   pub backward_forward : ((s : A) (i : ℕ) → P s → P (f s i)) → ((s : A) (i : ℕ) → P s → g (f s i) i ≡ s)
       → (s : A) (i n : ℕ) → P s → backward g (forward f s i n) i n ≡ s
@@ -37,6 +37,7 @@ module _ {A : Type 0} where
 
   pub backward_less : (g : A → ℕ → A) (s : A) (i n : ℕ) → 0 < n → backward g s i n ≡ backward g (g s (i + (n - 1))) i (n - 1)
   unfolding backward
+  backward_less g s i zero h = elim h [ ]
   backward_less g s i (suc n) h = let e : suc n - 1 ≡ n = omega arith in rw e refl
 
   pub backward_none : (g : A → ℕ → A) (s : A) (i : ℕ) → backward g s i 0 ≡ s
@@ -83,7 +84,7 @@ module _ {A : Type 0} where
   pub backward_same : (g : A → ℕ → A) (s : A) (i m n : ℕ) → ((t : A) (k : ℕ) → g t (i + k) ≡ g t (m + k)) → backward g s i n ≡ backward g s m n
   unfolding backward
   backward_same g s i m zero e = refl
-  backward_same g s i m (suc n) e = rw (e s n) (backward_same g _ i m n e)
+  backward_same g s i m (suc n) e = rw (e s n) (backward_same g (g s (m + n)) i m n e)
 
   -- the last m of n + m changes undone, and then the others
   pub backward_add : (g : A → ℕ → A) (s : A) (i n m : ℕ) → backward g (backward g s (i + n) m) i n ≡ backward g s i (n + m)

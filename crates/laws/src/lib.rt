@@ -1,1 +1,3 @@
 // Laws of iteration, lists and cases that several layers cite; no code.
+
+#![tactic(auto)]

@@ -6,7 +6,7 @@ use engine::Head;
 use libc::STDOUT_FILENO;
 
 // A head, and words of which the first are its area.
-#[derive(Drop)]
+#[derive(Clone, Copy)]
 pub struct State {
     pub head: Head,
     pub words: [u32; 2048],

@@ -1,4 +1,6 @@
 // The cases of document 02 (b), spent after a move back, for both ciphers: a line each, `ok` or `wrong`.
+#![tactic(auto)]
+
 use calls::{
     State, checkpoint_bytes, ciphers, has_spent, key_bytes, line, loads, moves, recovers, sets_up,
     writes,

@@ -1,4 +1,6 @@
 // A move to a position: the engine's move by the signed distance from where it is.
+#![tactic(auto)]
+
 ghost use Rattle.std.specs.Prelude.{◌≡◌};
 ghost use Rattle.engine.specs.Answers as Answers;
 ghost use Rattle.engine.specs.Calls as Calls;

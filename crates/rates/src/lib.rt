@@ -1,4 +1,6 @@
 // The duty rates: our table, and the loading of a refinery's own in its place. A refused loading gives its number, and the table in use stays.
+#![tactic(auto)]
+
 ghost use Rattle.std.specs.Prelude.{◌≡◌, ◌≤◌, length, drop};
 ghost use Rattle.rates.specs.Rates.{our_rates, rate_of};
 ghost use Rattle.rates.specs.Calls as Calls;
@@ -17,27 +19,27 @@ pub const MOST_RATE: u32 = 65_535;
 
 // A table of rates: those of products 1 to 8, in cents per litre.
 #[repr(C)]
-#[derive(Drop)]
+#[derive(Clone, Copy)]
 pub struct Rates {
     pub cents: [u16; 8],
 }
 
 // The answer of loading: the refusal number, 0 where the string is accepted, and the table in use after it.
-#[derive(Drop)]
+#[derive(Clone, Copy)]
 pub struct RatesAnswer {
     pub refusal: u64,
     pub rates: Rates,
 }
 
 // A pair of a table that is loaded.
-#[derive(Drop)]
+#[derive(Clone, Copy)]
 pub struct Pair {
     pub product: u32,
     pub rate: u32,
 }
 
 // A pair that was found, with refusal 0, and the place after it; or the refusal number, with 0 for its numbers and the place.
-#[derive(Drop)]
+#[derive(Clone, Copy)]
 pub struct PairFound {
     pub refusal: u64,
     pub pair: Pair,

@@ -1,4 +1,6 @@
 // The rates' part of the box's interface, for C. The table in use is the caller's own, and a loading updates it.
+#![tactic(auto)]
+
 ghost use Rattle.std.specs.Prelude.{◌≡◌};
 ghost use Rattle.rates.specs.Rates.{our_rates};
 ghost use Rattle.rates.specs.Calls as Calls;

@@ -1,12 +1,14 @@
 // The reader of a checkpoint: it carries the string it walks and how far it has come. The work is done by functions on a string and a place, and the
 // reader's own functions are thin ones over them.
+#![tactic(auto)]
+
 ghost use Rattle.std.specs.Prelude.{◌≡◌};
 ghost use Rattle.reader.specs.Readings as Readings;
 
 use varint::Read;
 
 // A value that was read and the place after it, with refusal 0; or the refusal number, with value 0 and the place where it should have started.
-#[derive(Drop)]
+#[derive(Clone, Copy)]
 pub struct Value {
     pub refusal: u8,
     pub value: u64,
@@ -57,14 +59,14 @@ fn number_at(string: &[u8], place: usize) -> Value
 }
 
 // The reader: the string that it walks, and how far it has come.
-#[derive(Drop)]
+#[derive(Clone, Copy)]
 pub struct Reader<'a> {
     pub string: &'a [u8],
     pub place: usize,
 }
 
 // What a reader has read, with refusal 0, and how far it has come; or the refusal number, with value 0 and the place where it stood.
-#[derive(Drop)]
+#[derive(Clone, Copy)]
 pub struct Part<'a> {
     pub string: &'a [u8],
     pub place: usize,
@@ -125,7 +127,7 @@ fn number_after_code(string: &[u8]) -> Value
 }
 
 // The position of a checkpoint and the place after it, with refusal 0; or load's refusal 9 or 10, with value and next 0.
-#[derive(Drop)]
+#[derive(Clone, Copy)]
 pub struct Position {
     pub refusal: u8,
     pub value: u64,

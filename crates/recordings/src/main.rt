@@ -1,5 +1,7 @@
 // The cases of document 02 (k), the blender's log against the tank gauge's: a line each, `ok` or `wrong`. An entry is minutes, litres, ratio and
 // product.
+#![tactic(auto)]
+
 use pairs::{blenders, blenders_entry, gauges, gauges_entry, refuses};
 
 mod many;

@@ -1,4 +1,6 @@
 // From the tables at a position back to the sixteen words of their key and IV: of an area that stays, or of the words of a checkpoint.
+#![tactic(auto)]
+
 ghost use Rattle.std.specs.Prelude.{◌≡◌, ◌++◌, ◌+◌, ◌-◌, ◌*◌, ◌^◌, ◌≤◌, ◌<◌, length, take, drop, replicate};
 ghost use Rattle.word.specs.Bytes.{words};
 ghost use Rattle.cipher.specs.Numbers.{area_length};

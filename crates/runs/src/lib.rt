@@ -1,4 +1,6 @@
 // A run is a number of steps of one turn whose indices do not wrap: A[j-3] is then the word three places before A[j] in the area.
+#![tactic(auto)]
+
 ghost use Rattle.std.specs.Prelude.{◌≡◌, ◌+◌, ◌%◌, ◌<◌, length, get_or};
 ghost use Rattle.laws.specs.Iterate.{forward, backward};
 ghost use Rattle.cipher.specs.Numbers.{table_length, area_length};

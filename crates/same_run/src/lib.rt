@@ -1,5 +1,7 @@
 // Same run or not: whether two checkpoints have the same key and IV. Each is led back to the sixteen words of its key and IV, the first string first,
 // and then the words are compared.
+#![tactic(auto)]
+
 ghost use Rattle.std.specs.Prelude.{◌≡◌, false, replicate};
 ghost use Rattle.laws.specs.Same.{same};
 ghost use Rattle.same_run.specs.SameRun as SameRun;
@@ -8,7 +10,7 @@ ghost use Rattle.same_run.specs.Found as Found;
 use cipher::Cipher;
 
 // The answer: the refusal number, 0 where the pair is accepted, and then yes or no; beside a refusal it is no.
-#[derive(Drop)]
+#[derive(Clone, Copy)]
 pub struct YesOrNo {
     pub refusal: u64,
     pub yes: bool,
@@ -16,7 +18,7 @@ pub struct YesOrNo {
 
 // The answer for C: yes is 1, no is 0. The order needs no padding.
 #[repr(C)]
-#[derive(Drop)]
+#[derive(Clone, Copy)]
 pub struct YesOrNoAnswer {
     pub refusal: u64,
     pub yes: u64,
@@ -32,7 +34,7 @@ fn refused(refusal: u64) -> YesOrNo
 }
 
 // What a checkpoint leads back to: its cipher and the sixteen words of its key and IV, with refusal 0; or the number with which load refuses it.
-#[derive(Drop)]
+#[derive(Clone, Copy)]
 struct Origin {
     refusal: u64,
     cipher: Cipher,

@@ -1,4 +1,6 @@
 // The call of two checkpoints for C.
+#![tactic(auto)]
+
 ghost use Rattle.std.specs.Prelude.{◌≡◌};
 ghost use Rattle.same_run.specs.SameRun as SameRun;
 

@@ -1,4 +1,6 @@
 // The expansion of W0..15, which fills a table area, and its inverse.
+#![tactic(auto)]
+
 ghost use Rattle.std.specs.Prelude.{◌≡◌, ◌++◌, ◌+◌, ◌-◌, ◌%◌, ◌≤◌, length, take, drop};
 ghost use Rattle.laws.specs.Iterate.{backward};
 ghost use Rattle.laws.specs.Same.{same};
@@ -178,7 +180,7 @@ fn is_expansion(cipher: Cipher, area: &[u32]) -> bool
 }
 
 // Sixteen words, and whether they fill all of the area and stand twice where they have to.
-#[derive(Drop)]
+#[derive(Clone, Copy)]
 pub struct Found {
     pub words: [u32; 16],
     pub filled: bool,

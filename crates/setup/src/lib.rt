@@ -1,4 +1,6 @@
 // Whole set-up, key and IV to tables, and its undoing, tables to key and IV or none.
+#![tactic(auto)]
+
 ghost use Rattle.std.specs.Prelude.{◌≡◌, length};
 ghost use Rattle.cipher.specs.Numbers.{area_length, key_length, iv_length};
 ghost use Rattle.setup.specs.SetUp as SetUp;

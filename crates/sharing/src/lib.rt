@@ -1,6 +1,8 @@
 // Four lines on one stream: the share account beside the head, its opening, its draws and its closing, and the engine's calls that are refused while
 // sharing is open. Each call takes the share account by value; those that change it hand back the next one. Write, recover and spent are the engine's
 // own and take none.
+#![tactic(auto)]
+
 ghost use Rattle.std.specs.Prelude.{◌≡◌, ◌+◌, ◌≤◌};
 ghost use Rattle.engine.specs.Calls as EngineCalls;
 ghost use Rattle.engine.specs.Answers as EngineAnswers;
@@ -16,7 +18,7 @@ use engine::answers::{Done, LoadDone};
 // The share account: what is left of the share of each line 0 to 3; what is left of the common part; and whether sharing is open, 0 where it is closed
 // and any other number where it is open. It begins closed.
 #[repr(C)]
-#[derive(Drop)]
+#[derive(Clone, Copy)]
 pub struct ShareAccount {
     pub shares: [u64; 4],
     pub common: u64,
@@ -25,21 +27,21 @@ pub struct ShareAccount {
 
 // The answer of opening, draw and closing: the refusal number, 0 where the call is accepted, and the next share account.
 #[repr(C)]
-#[derive(Drop)]
+#[derive(Clone, Copy)]
 pub struct ShareAnswer {
     pub refusal: u64,
     pub account: ShareAccount,
 }
 
 // What opening and draw hand back: the answer and the next head.
-#[derive(Drop)]
+#[derive(Clone, Copy)]
 pub struct ShareDone {
     pub answer: ShareAnswer,
     pub head: Head,
 }
 
 // What four shares leave of the stream: whether they are within it, and how many bytes are left.
-#[derive(Drop)]
+#[derive(Clone, Copy)]
 pub struct Rest {
     pub enough: bool,
     pub bytes: u64,

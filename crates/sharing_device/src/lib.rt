@@ -1,5 +1,7 @@
 // The share account's part of the box's interface, for C: opening and draw on the caller's own head, and closing. The share account goes in by value,
 // and the next one comes back beside the refusal number. It is compiled apart from the other calls, so that it does not change how they are compiled.
+#![tactic(auto)]
+
 ghost use Rattle.std.specs.Prelude.{◌≡◌};
 ghost use Rattle.sharing.specs.Answers as Answers;
 ghost use Rattle.sharing.specs.Calls as Calls;

@@ -1,6 +1,8 @@
 // Where a volume became hopeless: whether a string is a volume, or the beginning of one, or else how many bytes its shortest beginning has that no
 // bytes can complete. The entries are read as reading does; where one is refused, its numbers are read again, and the one that is refused group by
 // group.
+#![tactic(auto)]
+
 ghost use Rattle.std.specs.Prelude.{◌≡◌, ◌≤◌, length, drop};
 ghost use Rattle.volume.specs.Volume as Volume;
 ghost use Rattle.soundness.specs.Soundness.{Fits};
@@ -11,7 +13,7 @@ use volume::{MOST_ENTRIES, MOST_LITRES, MOST_MINUTES, MOST_PRODUCT, MOST_RATIO};
 
 // The answer: the string is a volume; or it is none, but some bytes after it make it one; or no bytes can complete its first `length` bytes, and some
 // can complete each shorter beginning.
-#[derive(Drop)]
+#[derive(Clone, Copy)]
 pub enum Soundness {
     Sound,
     Cut,
@@ -20,7 +22,7 @@ pub enum Soundness {
 
 // The answer for C: 0 is sound, 1 is cut, 2 is hopeless; the length is 0 unless it is hopeless.
 #[repr(C)]
-#[derive(Drop)]
+#[derive(Clone, Copy)]
 pub struct SoundnessAnswer {
     pub answer: u64,
     pub length: usize,

@@ -1,4 +1,6 @@
 // The soundness call of the box's interface, for C.
+#![tactic(auto)]
+
 ghost use Rattle.soundness.specs.Soundness.{Given};
 
 use soundness::{Soundness, SoundnessAnswer};

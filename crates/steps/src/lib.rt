@@ -1,4 +1,6 @@
 // Many steps of a cipher, forward and back, by runs where there are any; a move from one byte position to another; and the word of a position.
+#![tactic(auto)]
+
 ghost use Rattle.std.specs.Prelude.{◌≡◌, ◌+◌, ◌-◌, ◌^◌, ◌≤◌, ◌<◌, min, length};
 ghost use Rattle.cipher.specs.Numbers.{area_length};
 ghost use Rattle.steps.specs.Steps as Steps;

@@ -1,4 +1,6 @@
 // The table area of a cipher, 2T words, P then Q: a step, its inverse and its output word, by the number of the step.
+#![tactic(auto)]
+
 ghost use Rattle.std.specs.Prelude.{◌≡◌, ◌≤◌, ◌<◌, length};
 ghost use Rattle.cipher.specs.Numbers.{table_length, area_length};
 ghost use Rattle.functions.specs.ByCipher.{put};
@@ -9,7 +11,7 @@ ghost use Rattle.tables.specs.Step as Step;
 use cipher::Cipher;
 
 // The five indices that a step reads in a table of T words: j, j - 3, j - 10, j + 1 and j - 12, modulo T.
-#[derive(Drop)]
+#[derive(Clone, Copy)]
 pub struct Indices {
     pub j: usize,
     pub minus3: usize,

@@ -1,5 +1,7 @@
 // A test load that can be repeated: a set up, and then calls that words from a seed give. Two benches that run the same load put the same strain on a
 // box.
+#![tactic(auto)]
+
 ghost use Rattle.std.specs.Prelude.{◌≡◌, ◌≤◌};
 ghost use Rattle.engine.specs.Answers as Answers;
 ghost use Rattle.engine.specs.Calls as Calls;

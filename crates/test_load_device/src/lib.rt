@@ -1,5 +1,7 @@
 // The test load's part of the box's interface, for C, on the caller's own head. It is compiled apart from the other calls, so that it does not change
 // how they are compiled.
+#![tactic(auto)]
+
 ghost use Rattle.std.specs.Prelude.{◌≡◌};
 ghost use Rattle.engine.specs.Answers as Answers;
 ghost use Rattle.test_load.specs.TestLoad as Loads;

@@ -1,4 +1,6 @@
 // The cases of document 02 (h), a test load that can be repeated, for both ciphers: a line each, `ok` or `wrong`.
+#![tactic(auto)]
+
 use loads::accepts;
 use refusals::refuses;
 

@@ -1,4 +1,6 @@
 // The cases of document 02 (m), same run or not, for both ciphers: a line each, `ok` or `wrong`.
+#![tactic(auto)]
+
 mod lines;
 mod pairs;
 mod refusals;

@@ -4,7 +4,7 @@ ghost use Rattle.std.specs.Prelude.{◌≤◌};
 use engine::Head;
 
 // A string: so many bytes at the start of these.
-#[derive(Drop)]
+#[derive(Clone, Copy)]
 pub struct Stored {
     pub bytes: [u8; 8198],
     pub length: usize,

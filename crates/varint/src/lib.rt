@@ -1,4 +1,6 @@
 // Numbers in groups of seven bits, lowest first: the writer, the count of the groups, and the reader.
+#![tactic(auto)]
+
 ghost use Rattle.std.specs.Prelude.{◌≡◌, ◌+◌, ◌≤◌, length, drop};
 ghost use Rattle.std.proofs.lemmas.List.Edits.{sets};
 ghost use Rattle.varint.specs.Number as Number;
@@ -46,7 +48,7 @@ pub fn count_groups(n: u64) -> usize
 }
 
 // What a reader finds: a number and the place after it, the string's end before the last group, or a number that is malformed.
-#[derive(Drop)]
+#[derive(Clone, Copy)]
 pub enum Read {
     Number { value: u64, next: usize },
     Ended,

@@ -1,4 +1,6 @@
 // The vectors of appendix A of both papers, run: cipher, vector, `ok` or `wrong`.
+#![tactic(auto)]
+
 ghost use Rattle.std.specs.Prelude.{◌≤◌, length};
 
 use engine::Head;
@@ -91,7 +93,7 @@ fn gives(
 }
 
 // The numbers of a cipher that a vector needs: its code, the bytes of its key and IV, and the words of its area.
-#[derive(Drop)]
+#[derive(Clone, Copy)]
 struct Sizes {
     code: u32,
     key: usize,

@@ -1,5 +1,7 @@
 // The shift volume: a count of entries, then the entries, four numbers each. It is read from a string into a lent list, and written from a list into
 // lent bytes. A refused call gives its number, and the lent list or the lent bytes keep their values.
+#![tactic(auto)]
+
 ghost use Rattle.std.specs.Prelude.{◌≡◌};
 ghost use Rattle.laws.specs.Result.{result_of};
 ghost use Rattle.volume.specs.Calls as Calls;
@@ -25,7 +27,7 @@ pub const LEAST_PRODUCT: u32 = 1;
 pub const MOST_PRODUCT: u32 = 8;
 
 // An entry: minutes since the previous entry, litres, ratio in hundredths of a percent, product.
-#[derive(Drop)]
+#[derive(Clone, Copy)]
 pub struct Entry {
     pub minutes: u32,
     pub litres: u32,
@@ -35,7 +37,7 @@ pub struct Entry {
 
 // The answer of reading: the refusal number, 0 where the volume is accepted, and the count of its entries, 0 where it is refused.
 #[repr(C)]
-#[derive(Drop)]
+#[derive(Clone, Copy)]
 pub struct CountAnswer {
     pub refusal: u64,
     pub count: usize,
@@ -43,7 +45,7 @@ pub struct CountAnswer {
 
 // The answer of writing: the refusal number, 0 where the list is accepted, and the length of the volume, 0 where it is refused.
 #[repr(C)]
-#[derive(Drop)]
+#[derive(Clone, Copy)]
 pub struct LengthAnswer {
     pub refusal: u64,
     pub length: usize,

@@ -12,7 +12,7 @@ use crate::{
 use varint::Read;
 
 // A value that was found, with refusal 0, and the place after it; or the refusal number, with 0 for both.
-#[derive(Drop)]
+#[derive(Clone, Copy)]
 pub struct ValueFound {
     pub refusal: u64,
     pub value: u32,
@@ -20,7 +20,7 @@ pub struct ValueFound {
 }
 
 // An entry that was checked, with refusal 0, and the place after it; or the refusal number, with 0 for its numbers and the place.
-#[derive(Drop)]
+#[derive(Clone, Copy)]
 pub struct EntryChecked {
     pub refusal: u64,
     pub entry: Entry,
@@ -28,7 +28,7 @@ pub struct EntryChecked {
 }
 
 // The count of a volume's entries, with refusal 0, and the place of the first; or the refusal number, with 0 for both.
-#[derive(Drop)]
+#[derive(Clone, Copy)]
 pub struct CountFound {
     pub refusal: u64,
     pub count: usize,
@@ -36,14 +36,14 @@ pub struct CountFound {
 }
 
 // A number of a volume that has been checked, and the place after it.
-#[derive(Drop)]
+#[derive(Clone, Copy)]
 pub struct NumberFound {
     pub value: u32,
     pub next: usize,
 }
 
 // An entry of a volume that has been checked, and the place after it.
-#[derive(Drop)]
+#[derive(Clone, Copy)]
 pub struct EntryFound {
     pub entry: Entry,
     pub next: usize,

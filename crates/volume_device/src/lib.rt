@@ -1,5 +1,7 @@
 // The shift volume's part of the box's interface, for C: the writer, the reader, and the enciphering of a volume on the caller's own head. It is
 // compiled apart from the other calls, since the compiler copies the engine's cipher into `hc_cipher` only where nothing else calls it.
+#![tactic(auto)]
+
 ghost use Rattle.std.specs.Prelude.{◌≡◌};
 ghost use Rattle.volume.specs.Answers as VolumeAnswers;
 ghost use Rattle.volume.specs.Calls as VolumeCalls;

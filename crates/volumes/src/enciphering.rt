@@ -10,7 +10,7 @@ use engine::Head;
 use engine::answers::Done;
 
 // The cipher, and the head, the area and the refusal number of a line.
-#[derive(Drop)]
+#[derive(Clone, Copy)]
 struct Row {
     code: u32,
     known: bool,

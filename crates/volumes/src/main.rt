@@ -1,5 +1,7 @@
 // The cases of document 02 (d), the shift volume, (e), the duty on it, (f), the effect of one ratio on the duty, (n), the refinery's own rates, and
 // (j), where a volume became hopeless: reading, writing, enciphering, the duty, the loading of rates and the soundness, a line each, `ok` or `wrong`.
+#![tactic(auto)]
+
 use table::{CUT, DUTY, HOPELESS, LOAD, READ, SOUND, WRITE};
 
 mod beginnings;

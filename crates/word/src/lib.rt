@@ -1,4 +1,6 @@
 // Words of 32 bits: sums and differences modulo 2^32, rotations, f1 and f2, and their bytes, least significant first.
+#![tactic(auto)]
+
 ghost use Rattle.std.specs.Prelude.{◌≡◌, ◌<◌};
 ghost use Rattle.word.specs.Word as Word;
 ghost use Rattle.word.specs.Word.{◌⊞◌, ◌⊟◌};

@@ -1,9 +1,0 @@
--- `story::back` meets its contract: the slices keep their lengths. Assumes nothing.
-use Rattle.std.proofs.Common.{rules}
-use Rattle.examples.proofs.story.back.Statement.{statement}
-use Rattle.examples.proofs.story.back.Tie as tie
-
-pub back-spec : {M : Type 1} → statement M
-back-spec =
-    let a₁ = tie.spec (λ c κs. tt) (λ c κs. tt) (λ c κs. tt) (λ c. search rules) (λ c κs. tt) (λ c. search rules) in
-    tie.close (a₁ (λ c. search rules) (λ c. tt))

@@ -1,9 +1,0 @@
--- `words::recovers` meets its contract: the parts lie within the arrays. Assumes nothing.
-use Rattle.std.proofs.Common.{arith, length-take, rules}
-use Rattle.examples.proofs.words.recovers.Statement.{statement}
-use Rattle.examples.proofs.words.recovers.Tie as tie
-
-pub recovers-spec : {M : Type 1} → statement M
-recovers-spec =
-    let a₁ = tie.spec (λ c κs. tt) (λ c. search rules) (λ c. simp length-take (omega arith)) (λ c. search rules) in
-    tie.close (a₁ (λ c. simp length-take (omega arith)) (λ c κs. tt) (λ c. tt))
