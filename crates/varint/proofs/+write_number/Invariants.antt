@@ -1,0 +1,5 @@
+-- The measure of `varint::write_number` is n.
+use Rattle.varint.proofs.+write_number.Given as goal
+
+abbrev pub decreases-write_number : goal.decreases-write_number
+decreases-write_number l = l.n
