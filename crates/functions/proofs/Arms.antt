@@ -1,9 +1,8 @@
--- What an arm of the code has is the feedback, or h, of the cipher given: c is that cipher, and the arm knows which it is. Assumes nothing.
+-- What an arm of the code has is the feedback, or h, of the cipher given: c is that cipher, and the arm knows which it is.
 use mathlib.Core.Path.{◌≡◌, ap, ◌∙◌}
 use mathlib.Core.Bool.{Bool}
 use mathlib.Core.List.{List}
 use Prim.Native.Nat.{ℕ}
-use native.Mathlib.Omega.{arith}
 use Rattle.word.specs.Word.{◌⊞◌}
 use Rattle.cipher.specs.declared.Cipher.{Cipher}
 use Rattle.cipher.specs.declared.Cipher.TheVariants.{Hc128, Hc256}
