@@ -1,4 +1,4 @@
--- A change of A[j] by f, which is given A[j], the feedback and the filter, is undone by g where g undoes f. Assumes nothing.
+-- A change of A[j] by f, which is given A[j], the feedback and the filter, is undone by g where g undoes f.
 use mathlib.Core.Path.{◌≡◌, ◌∙◌}
 use mathlib.Core.List.{List}
 use Prim.Native.Nat.{ℕ, ◌^◌, ◌<◌}

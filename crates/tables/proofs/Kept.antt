@@ -1,4 +1,4 @@
--- Feedback and filter of step i are words, and a change of A[j] leaves them as they were. Assumes nothing.
+-- Feedback and filter of step i are words, and a change of A[j] leaves them as they were.
 use mathlib.Core.Path.{◌≡◌}
 use mathlib.Core.List.{List}
 use Prim.Native.Nat.{ℕ, ◌+◌, ◌%◌, ◌^◌, ◌<◌}

@@ -1,5 +1,5 @@
 -- Remainders, the five indices, which table changes and the start of A by `&`, where the lengths are powers of two; and a table as a part of the
--- area. Assumes nothing.
+-- area.
 use mathlib.Core.Path.{◌≡◌, refl, sym, ap, ap₂, ◌∙◌}
 use mathlib.Core.Bool.{Bool, true, false}
 use mathlib.Core.List.{List}

@@ -1,4 +1,4 @@
--- Where a step reads and writes: A[j] stands at i mod 2T, and what a step reads besides A[j] is not A[j]. Assumes nothing.
+-- Where a step reads and writes: A[j] stands at i mod 2T, and what a step reads besides A[j] is not A[j].
 use mathlib.Core.Path.{◌≡◌}
 use mathlib.Core.Logic.{◌≢◌, ⊎_elim}
 use mathlib.Core.Bool.{Bool, true, false}

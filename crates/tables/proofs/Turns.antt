@@ -1,4 +1,4 @@
--- Steps whose numbers agree modulo 2T are the same steps. Assumes nothing.
+-- Steps whose numbers agree modulo 2T are the same steps.
 use mathlib.Core.Path.{◌≡◌, refl}
 use mathlib.Core.List.{List}
 use Prim.Native.Nat.{ℕ, ◌%◌}

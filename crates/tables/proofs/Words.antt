@@ -1,4 +1,4 @@
--- What the code reads by its indices is the feedback and h(A[j-12]) of step i, and what it stores is the step. Assumes nothing.
+-- What the code reads by its indices is the feedback and h(A[j-12]) of step i, and what it stores is the step.
 use mathlib.Core.Path.{◌≡◌, refl}
 use mathlib.Core.Bool.{Bool}
 use mathlib.Core.List.{List}
