@@ -70,12 +70,12 @@ previous_below l n = omega arith
 pub unexpansion_words : (l : List ℕ) (n : ℕ) → AllWords l → AllWords (unexpansion l n)
 unfolding unexpansion
 unexpansion_words l zero ok = ok
-unexpansion_words l (suc n) ok = unexpansion_words _ n (cons_below l (previous_below l n) ok)
+unexpansion_words l (suc n) ok = unexpansion_words (previous_word l n ∷ l) n (cons_below l (previous_below l n) ok)
 
 pub unexpansion_length : (l : List ℕ) (n : ℕ) → length (unexpansion l n) ≡ n + length l
 unfolding unexpansion
 unexpansion_length l zero = omega arith
-unexpansion_length l (suc n) = unexpansion_length _ n ∙ omega arith
+unexpansion_length l (suc n) = unexpansion_length (previous_word l n ∷ l) n ∙ omega arith
 
 pub unexpansion_drop : (l : List ℕ) (n : ℕ) → drop n (unexpansion l n) ≡ l
 unfolding unexpansion

@@ -1,0 +1,12 @@
+-- The first window, moved back, is the area's origin.
+use Rattle.std.proofs.Common.{◌≡◌}
+use Rattle.schedule.specs.Origin.{origin, is_filled}
+use Rattle.schedule.proofs.Window.{origin_window}
+use Rattle.schedule.proofs.origin.Goals as goal
+
+pub returns : goal.returns
+unfolding is_filled
+returns c =
+    let w : c.unexpand-words.result ≡ origin c.args.cipher c.args.area.now =
+    origin_window c.args.cipher c.args.area.now _ _ _ c.requires c.half_table-half.ensures.0 c.sixteen_from.ensures c.unexpand-words.ensures in
+    (w, rw (c.doubled.ensures, c.is_expansion.ensures, w))
