@@ -1,4 +1,4 @@
--- Where no index wraps, feedback, filter and A[j] of step k are read at places around k; and each step of a run is such a step. Assumes nothing.
+-- Where no index wraps, feedback, filter and A[j] of step k are read at places around k; and each step of a run is such a step.
 use mathlib.Core.Path.{◌≡◌, refl, ◌∙◌}
 use mathlib.Core.Logic.{⊎_elim}
 use mathlib.Core.Bool.{Bool}

@@ -1,4 +1,4 @@
--- As many steps as a run has, or fewer, are a run. Assumes nothing.
+-- As many steps as a run has, or fewer, are a run.
 use mathlib.Core.Path.{◌≡◌}
 use mathlib.Core.Logic.{◌≢◌, ⊎_elim}
 use Prim.Native.Nat.{ℕ, ◌+◌, ◌-◌, ◌%◌, ◌≤◌, ◌<◌, min}
