@@ -2,15 +2,13 @@
 use mathlib.Core.Path.{◌≡◌, refl, sym, ap, ◌∙◌}
 use mathlib.Core.Bool.{true, false}
 use mathlib.Core.List.{List, [], ◌∷◌}
-use Prim.Native.Nat.{ℕ, zero, suc, ◌+◌, ◌-◌, ◌*◌, ◌<◌, ◌≤◌}
-use native.Mathlib.Omega.{arith}
-use lib.ListN.{length, get_or, drop}
+use Prim.Native.Nat.{ℕ, zero, suc, ◌+◌, ◌-◌, ◌<◌, ◌≤◌}
+use lib.ListN.{length, drop}
 use lib.Seq.{drop-cons, drop-length}
 use Rattle.laws.specs.Result.{Result, refused, accepted, ◌>>=◌, ◌>>◌, refuse◌unless◌}
 use Rattle.laws.proofs.Results.{block_in_block, same_lines, after_line, no_refusal, accepted_one}
 use Rattle.laws.proofs.Turns as Turns
 use Rattle.volume.specs.declared.Entry.{Entry}
-use Rattle.volume.specs.Volume.{numbers_of}
 use Rattle.volume.specs.Calls.{EntryRead, EntriesRead, read_entry, read_entries, is_empty}
 use Rattle.volume.specs.Found.{entries_only}
 

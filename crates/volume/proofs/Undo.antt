@@ -1,10 +1,10 @@
 -- What is written is read back, and what is read is what would have been written. Assumes nothing.
 use mathlib.Core.Path.{◌≡◌, refl, sym, ap, ◌∙◌}
-use mathlib.Core.Bool.{Bool, true, false, ◌&&◌}
+use mathlib.Core.Bool.{true}
 use mathlib.Core.List.{List, [], ◌∷◌, ◌++◌, append_assoc, append-nil}
-use Prim.Native.Nat.{ℕ, zero, suc, ◌+◌, ◌*◌, ◌/◌, ◌^◌, ◌<◌, ◌≤◌}
+use Prim.Native.Nat.{ℕ, zero, suc, ◌*◌, ◌/◌, ◌^◌, ◌<◌, ◌≤◌}
 use native.Mathlib.Omega.{arith}
-use lib.ListN.{length, get_or, take, drop, length-append}
+use lib.ListN.{length, get_or, take, drop}
 use lib.Seq.{take_at}
 use Rattle.laws.specs.Lent.{put_first}
 use Rattle.laws.specs.Result.{accepted, ◌>>=◌, ◌>>◌, refuse◌unless◌}
@@ -22,7 +22,6 @@ use Rattle.volume.proofs.Values.{ranged_value, range_most}
 use Rattle.volume.proofs.Ranges.{minutes_in, litres_in, ratio_in, product_in, volume_lines, volume_in_range}
 use Rattle.volume.proofs.FourNumbers.{entry_of, entry_four}
 use Rattle.volume.proofs.EntryByEntry.{entries_zero, entries_suc, entries_first, none_left, entries_count}
-use Rattle.volume.proofs.Counting.{whole}
 use Rattle.volume.proofs.Volumes.{whole_found}
 use Rattle.volume.proofs.Shows.{read_shows, read_accepts, write_shows, write_accepts}
 

@@ -1,6 +1,6 @@
 -- Writing a volume from a list, in the order of the refusals. Assumes nothing.
 use mathlib.Core.Path.{◌≡◌, refl, sym, ap, ◌∙◌}
-use mathlib.Core.Bool.{Bool, true, false, ◌&&◌}
+use mathlib.Core.Bool.{Bool, true, false}
 use mathlib.Core.List.{List, ◌++◌}
 use Prim.Native.Nat.{ℕ, ◌+◌, ◌*◌, ◌/◌, ◌%◌, ◌<◌, ◌≤◌}
 use native.Mathlib.Nat.{zero-add}
@@ -13,7 +13,6 @@ use Rattle.laws.specs.Result.{refused, accepted, ◌>>◌, refuse◌unless◌}
 use Rattle.laws.proofs.Results.{no_refusal, accepted_one}
 use Rattle.laws.proofs.Stores.{sets_append}
 use Rattle.varint.specs.Number.{number}
-use Rattle.volume.specs.declared.Entry.{Entry}
 use Rattle.volume.specs.Volume.{in_range, count_range, entries_in_range, entries_string, volume_string, entries_of}
 use Rattle.volume.specs.Calls.{write_volume}
 use Rattle.volume.specs.Found.{entries_length}
