@@ -31,6 +31,7 @@ rate_in_table pairs (suc i) l h = rates_at pairs i (omega (arith, h)) ∙ ap (ra
 -- every pair after others in order is above them, and has a product from 1 to 8
 pub pair_above : (last : ℕ) (pairs : List Pair) (pair : Pair) → InOrder last pairs → Memᴰ pair pairs
     → (last < pair.product) × (1 ≤ pair.product) × (pair.product ≤ 8)
+pair_above last [] pair h e = elim e [ ]
 pair_above last (first ∷ pairs) pair h (Memᴰ.head e) = rw e (h.0.above, h.0.product.0, h.0.product.1)
 pair_above last (first ∷ pairs) pair h (Memᴰ.tail m) =
     let a = pair_above first.product pairs pair h.1 m in
@@ -39,6 +40,7 @@ pair_above last (first ∷ pairs) pair h (Memᴰ.tail m) =
 pub among_pair : (last : ℕ) (pairs : List Pair) (pair : Pair) → InOrder last pairs → Memᴰ pair pairs
     → rate_among pairs pair.product ≡ pair.rate
 unfolding rate_among
+among_pair last [] pair h e = elim e [ ]
 among_pair last (first ∷ pairs) pair h (Memᴰ.head e) = rw (e, eq-eqb first.product first.product refl)
 among_pair last (first ∷ pairs) pair h (Memᴰ.tail m) =
     let a = pair_above first.product pairs pair h.1 m in

@@ -150,6 +150,7 @@ never_both r e q = let z : ◌≡◌ {A = ℕ} 24 25 = cc in omega (arith, z)
 one_of_two : {C : Type 0} (n : ℕ) → Memᴰ n (24 ∷ 25 ∷ []) → (n ≡ 24 → C) → (n ≡ 25 → C) → C
 one_of_two n (Memᴰ.head e) p q = p e
 one_of_two n (Memᴰ.tail (Memᴰ.head e)) p q = q e
+one_of_two n (Memᴰ.tail (Memᴰ.tail e)) p q = elim e [ ]
 
 only_24 : {A : Type 0} (r : Result A) → Within (24 ∷ 25 ∷ []) r → (r ≡ refused 25 → ⊥) → ((a : A) → r ≡ accepted a → ⊥) → r ≡ refused 24
 only_24 (refused n) (by_one m) h k = one_of_two n m (λ e. ap refused e) (λ e. absurd (h (ap refused e)))

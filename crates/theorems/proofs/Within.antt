@@ -204,6 +204,7 @@ either_true true b e = refl
 either_true false b e = e
 
 is_among : (n : ℕ) (l : List ℕ) → Memᴰ n l → among n l ≡ true
+is_among n [] h = elim h [ ]
 is_among n (m ∷ l) (Memᴰ.head e) = rw (eq-eqb n m e)
 is_among n (m ∷ l) (Memᴰ.tail h) = either_true (eqb n m) (among n l) (is_among n l h)
 
