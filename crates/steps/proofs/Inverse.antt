@@ -1,4 +1,4 @@
--- n steps of either cipher and their inverse undo each other, both ways, from any step on, on every area. Assumes nothing.
+-- n steps of either cipher and their inverse undo each other, both ways, from any step on, on every area.
 use mathlib.Core.Path.{◌≡◌}
 use mathlib.Core.List.{List}
 use Prim.Native.Nat.{ℕ}

@@ -1,4 +1,4 @@
--- The two ways of a move from position p to position q, where i and j are their steps. Assumes nothing.
+-- The two ways of a move from position p to position q, where i and j are their steps.
 use mathlib.Core.Path.{◌≡◌}
 use mathlib.Core.List.{List}
 use Prim.Native.Nat.{ℕ, ◌+◌, ◌-◌, ◌≤◌, ◌<◌}
