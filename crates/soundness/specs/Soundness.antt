@@ -1,5 +1,5 @@
 -- Document 02 (j), where a volume became hopeless: 'The definition speaks about completions and not about the reader.' Reading is asked only whether
--- it accepts a string; `sound-iff` and `completable-iff` of WhereHopeless say the same by the volumes of entries.
+-- it accepts a string; `sound_iff` and `completable_iff` of WhereHopeless say the same by the volumes of entries.
 use Rattle.std.specs.Prelude.{◌≡◌, List, ◌++◌, ℕ, ◌≤◌, ◌<◌, length, take}
 use Rattle.laws.specs.Result.{accepted}
 use Rattle.word.specs.Bytes.{AllBytes}
