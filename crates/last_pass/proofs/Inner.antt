@@ -1,4 +1,4 @@
--- What the code stores is the change, or the change undone, of HC-128; and the changes of a run are such that no index wraps. Assumes nothing.
+-- What the code stores is the change, or the change undone, of HC-128; and the changes of a run are such that no index wraps.
 use mathlib.Core.Path.{◌≡◌, refl, sym, ◌∙◌}
 use mathlib.Core.Logic.{◌≢◌}
 use mathlib.Core.Bool.{Bool, true, false}

@@ -1,4 +1,4 @@
--- Set-up's last pass and its inverse undo each other, both ways, on every area of either cipher. Assumes nothing.
+-- Set-up's last pass and its inverse undo each other, both ways, on every area of either cipher.
 use mathlib.Core.Path.{◌≡◌}
 use mathlib.Core.List.{List}
 use Prim.Native.Nat.{ℕ}

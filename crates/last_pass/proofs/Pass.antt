@@ -1,4 +1,4 @@
--- The pass of each cipher: HC-128's 1,024 changes, and HC-256's 4,096 steps. Assumes nothing.
+-- The pass of each cipher: HC-128's 1,024 changes, and HC-256's 4,096 steps.
 use mathlib.Core.Path.{◌≡◌, refl, ◌∙◌}
 use mathlib.Core.List.{List}
 use Prim.Native.Nat.{ℕ}
