@@ -16,7 +16,7 @@ use Rattle.volume.proofs.Values.{value_in_range, range_holds, range_least, range
 use Rattle.volume.proofs.Undo.{Bytes, value_back, value_was}
 use Rattle.rates.specs.declared.Pair.{Pair}
 use Rattle.rates.specs.Table.{pair_string, pairs_string, InOrder, last_product}
-use Rattle.rates.specs.Calls.{rate_range, refused_as24, PairRead, read_pair, PairsRead, read_pairs}
+use Rattle.rates.specs.Calls.{rate_range, refused_as24, PairRead, read_pair, read_pairs}
 use Rattle.rates.proofs.Pairs.{as24_accepted, pair_of, pair_lines, not_above, pair_in_order, joined, pairs_zero, pairs_suc}
 use Rattle.rates.proofs.Strings.{pairs_before, pairs_back, pair_was}
 

@@ -1,13 +1,13 @@
 -- What the loop over the pairs of a table keeps, and the answer that it leads to. Assumes nothing.
-use mathlib.Core.Path.{◌≡◌, refl, sym, ap, ◌∙◌}
+use mathlib.Core.Path.{◌≡◌, refl, sym, ◌∙◌}
 use mathlib.Core.Bool.{Bool, true, false}
-use mathlib.Core.List.{List, [], ◌∷◌}
+use mathlib.Core.List.{List}
 use Prim.Native.Nat.{ℕ, suc, ◌+◌, ◌-◌, ◌<◌, ◌≤◌}
 use lib.ListN.{length, drop, set, replicate}
 use Rattle.laws.specs.Result.{Result, refused, accepted, ◌>>=◌, ◌>>◌, refuse◌unless◌}
 use Rattle.laws.proofs.Results.{block_in_block, same_lines}
 use Rattle.laws.proofs.Turns as Turns
-use Rattle.volume.specs.Calls.{ValueRead, read_value, is_empty}
+use Rattle.volume.specs.Calls.{read_value, is_empty}
 use Rattle.volume.proofs.EntryByEntry.{at_end, before_end}
 use Rattle.rates.specs.declared.Pair.{Pair}
 use Rattle.rates.specs.declared.Rates.{Rates}

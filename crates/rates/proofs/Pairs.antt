@@ -1,6 +1,5 @@
 -- A pair from its two numbers, in reading order, and pairs one after the other: what an accepted reading shows. Assumes nothing.
-use mathlib.Core.Path.{◌≡◌, refl, sym, ap, ◌∙◌}
-use mathlib.Core.Bool.{true}
+use mathlib.Core.Path.{◌≡◌, refl, sym, ◌∙◌}
 use mathlib.Core.List.{List, [], ◌∷◌}
 use Prim.Native.Nat.{ℕ, zero, suc, ◌<◌, ◌≤◌}
 use borrow.Author.Tests.{lt-ltb, le-ltb, ltb-true}
@@ -10,7 +9,6 @@ use Rattle.laws.proofs.Results.{after_line, after_unless, no_refusal, accepted_o
 use Rattle.volume.specs.Volume.{product_range}
 use Rattle.volume.specs.Calls.{ValueRead, read_value}
 use Rattle.volume.proofs.Values.{value_in_range, range_least, range_most}
-use Rattle.rates.specs.declared.Pair.{Pair}
 use Rattle.rates.specs.Table.{PairInOrder, InOrder}
 use Rattle.rates.specs.Calls.{rate_range, refused_as24, PairRead, read_pair, PairsRead, read_pairs}
 

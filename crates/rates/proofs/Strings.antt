@@ -1,21 +1,20 @@
 -- The string of pairs in order is read as these pairs, and what is read as pairs is their string. Assumes nothing.
 use mathlib.Core.Path.{◌≡◌, refl, sym, ap, ◌∙◌}
-use mathlib.Core.List.{List, [], ◌∷◌, ◌++◌, append_assoc, append-nil}
-use Prim.Native.Nat.{ℕ, zero, suc, ◌+◌, ◌≤◌}
+use mathlib.Core.List.{List, [], ◌∷◌, ◌++◌, append_assoc}
+use Prim.Native.Nat.{ℕ, zero, suc, ◌+◌}
 use native.Mathlib.Nat.{zero-add}
 use native.Mathlib.Omega.{arith}
 use lib.ListN.{length}
 use Rattle.laws.specs.Result.{Result, refused, accepted, ◌>>=◌}
-use Rattle.laws.proofs.Results.{block_in_block, same_lines}
+use Rattle.laws.proofs.Results.{block_in_block}
 use Rattle.varint.specs.Number.{number}
 use Rattle.volume.specs.Volume.{product_range}
-use Rattle.volume.specs.Calls.{read_value}
 use Rattle.volume.proofs.Values.{range_holds}
 use Rattle.volume.proofs.Undo.{Bytes, value_back, value_was}
 use Rattle.rates.specs.declared.Pair.{Pair}
 use Rattle.rates.specs.Table.{pair_string, pairs_string, PairInOrder, InOrder, last_product}
 use Rattle.rates.specs.Calls.{rate_range, PairRead, read_pair, PairsRead, read_pairs}
-use Rattle.rates.proofs.Pairs.{pair_of, both_numbers, pair_shows, joined, pairs_zero, pairs_suc, pairs_first, none_left}
+use Rattle.rates.proofs.Pairs.{pair_of, both_numbers, pair_shows, pairs_suc, pairs_first, none_left}
 
 -- ---- what is written is read back
 

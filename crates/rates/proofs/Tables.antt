@@ -8,15 +8,15 @@ use native.Mathlib.Omega.{arith}
 use lib.ListN.{length, get_or}
 use Rattle.laws.specs.Result.{Result, refused, accepted, ◌>>=◌, ◌>>◌, refuse◌unless◌}
 use Rattle.laws.proofs.Lists.{append_below}
-use Rattle.laws.proofs.Results.{after_line, after_unless, no_refusal, accepted_one, refused_iff}
+use Rattle.laws.proofs.Results.{after_line, after_unless, no_refusal, accepted_one}
 use Rattle.varint.specs.Number.{number}
 use Rattle.varint.proofs.Groups.{number_bytes}
 use Rattle.volume.specs.Calls.{ValueRead, read_value, is_empty}
 use Rattle.volume.proofs.Values.{value_in_range, range_holds, range_most}
 use Rattle.volume.proofs.Undo.{Bytes, value_back, value_was}
 use Rattle.rates.specs.declared.Pair.{Pair}
-use Rattle.rates.specs.Table.{pair_string, pairs_string, table_string, InOrder, Table, rates_of}
-use Rattle.rates.specs.Calls.{pair_count_range, refused_as24, PairsRead, read_pairs, pairs_in, load_rates}
+use Rattle.rates.specs.Table.{pair_string, pairs_string, table_string, InOrder, Table}
+use Rattle.rates.specs.Calls.{pair_count_range, refused_as24, PairsRead, read_pairs, pairs_in}
 use Rattle.rates.proofs.Pairs.{as24_accepted, pairs_zero, pairs_in_order}
 use Rattle.rates.proofs.Strings.{pairs_back, pairs_were}
 use Rattle.rates.proofs.Order.{NotAboveIn, as24_never_25, refused_25, gives_25}

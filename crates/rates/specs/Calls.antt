@@ -3,7 +3,7 @@
 use Rattle.std.specs.Prelude.{List, [], ◌∷◌, ℕ, zero, suc, ltb}
 use Rattle.laws.specs.Result.{Result, refused, accepted, Outcome, outcome, ◌>>=◌, ◌>>◌, refuse◌unless◌}
 use Rattle.volume.specs.Volume.{Range, ◌to◌, product_range}
-use Rattle.volume.specs.Calls.{ValueRead, read_value, is_empty}
+use Rattle.volume.specs.Calls.{read_value, is_empty}
 use Rattle.rates.specs.declared.Pair.{Pair}
 use Rattle.rates.specs.declared.RatesAnswer.{RatesAnswer}
 use Rattle.rates.specs.Table.{rates_of}
