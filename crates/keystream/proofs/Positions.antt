@@ -9,7 +9,6 @@ use borrow.Author.Tests.{eq-eqb, ne_eqb}
 use Rattle.laws.specs.Iterate.{forward}
 use Rattle.laws.proofs.Lists.{below_or_not}
 use Rattle.cipher.specs.declared.Cipher.{Cipher}
-use Rattle.tables.specs.Step.{step}
 use Rattle.steps.specs.Steps.{steps, steps_at, moved}
 use Rattle.steps.proofs.Moved.{steps_up, moved_up}
 use Rattle.keystream.specs.Keystream.{tables_next, tables_after}
