@@ -1,15 +1,13 @@
 -- What the loop over a volume's entries keeps, and the answer that it leads to. Assumes nothing.
-use mathlib.Core.Path.{◌≡◌, refl, sym, ap, ◌∙◌}
-use mathlib.Core.Bool.{true, false}
-use mathlib.Core.List.{List, [], ◌∷◌}
+use mathlib.Core.Path.{◌≡◌, sym, ◌∙◌}
+use mathlib.Core.List.{List}
 use Prim.Native.Nat.{ℕ, ◌+◌, ◌-◌, ◌/◌, ◌<◌, ◌≤◌}
 use native.Mathlib.Nat.{add-zero, zero-add, add_assoc}
-use native.Mathlib.Omega.{arith}
 use lib.ListN.{length, drop}
 use Rattle.laws.specs.Result.{Result, refused, accepted, ◌>>=◌, ◌>>◌, refuse◌unless◌}
 use Rattle.volume.specs.declared.Entry.{Entry}
 use Rattle.volume.specs.Volume.{count_range}
-use Rattle.volume.specs.Calls.{ValueRead, EntryRead, read_value, read_entry, is_empty}
+use Rattle.volume.specs.Calls.{EntryRead, read_value, read_entry, is_empty}
 use Rattle.volume.specs.Found.{entries_only}
 use Rattle.volume.proofs.EntryByEntry.{Comes, after, only_same, only_starts, only_turns, only_refused, only_ends, at_end, before_end}
 use Rattle.volume.proofs.Volumes.{volume_value}
