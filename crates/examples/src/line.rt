@@ -1,29 +1,29 @@
 // The line of a case: what was called, and `ok` or `wrong`.
-use libc::STDOUT_FILENO;
 
-pub fn text(bytes: &[u8]) {
-    io::write_all(STDOUT_FILENO, bytes);
+use std::io;
+
+pub fn text(rt: &impl Print, part: &str) -> io::Result<()> {
+    print!(rt; "{part}")
 }
 
 // A name and a number.
-pub fn number(name: &[u8], n: u64) {
-    text(name);
-    io::print_decimal(STDOUT_FILENO, n);
+pub fn number(rt: &impl Print, name: &str, n: u64) -> io::Result<()> {
+    print!(rt; "{name}{n}")
 }
 
 // A name and a length.
-pub fn size(name: &[u8], n: usize) {
-    number(name, n as u64);
+pub fn size(rt: &impl Print, name: &str, n: usize) -> io::Result<()> {
+    number(rt, name, n as u64)
 }
 
 // A name and a byte.
-pub fn byte(name: &[u8], n: u8) {
-    number(name, n as u64);
+pub fn byte(rt: &impl Print, name: &str, n: u8) -> io::Result<()> {
+    number(rt, name, n as u64)
 }
 
 // A name and a number of 32 bits.
-pub fn word(name: &[u8], n: u32) {
-    number(name, n as u64);
+pub fn word(rt: &impl Print, name: &str, n: u32) -> io::Result<()> {
+    number(rt, name, n as u64)
 }
 
 // How far a number is from 0.
@@ -32,85 +32,98 @@ fn magnitude(n: i64) -> u64 {
 }
 
 // A name and a number that may be below 0.
-pub fn signed(name: &[u8], n: i64) {
-    text(name);
+pub fn signed(rt: &impl Print, name: &str, n: i64) -> io::Result<()> {
+    text(rt, name)?;
     if n < 0 {
-        text(b"-");
+        text(rt, "-")?;
     }
-    number(b"", magnitude(n));
+    number(rt, "", magnitude(n))
 }
 
 // A byte in hexadecimal.
-fn hex_byte(n: u8) {
-    text(b" ");
-    io::print_hex(STDOUT_FILENO, n as u64, 2);
+fn hex_byte(rt: &impl Print, n: u8) -> io::Result<()> {
+    text(rt, " ")?;
+    print!(rt; "{n:02x}")
 }
 
 // Bytes in hexadecimal.
-pub fn hex(bytes: &[u8]) {
+pub fn hex(rt: &impl Print, bytes: &[u8]) -> io::Result<()> {
     let mut i = 0;
     while i < bytes.len() {
-        hex_byte(bytes[i]);
+        hex_byte(rt, bytes[i])?;
         i += 1;
     }
+    Ok(())
 }
 
 // The end of a line.
-pub fn end(ok: bool) {
-    if ok {
-        text(b" ok\n");
-    } else {
-        text(b" wrong\n");
-    }
+pub fn end(rt: &impl Print, ok: bool) -> io::Result<()> {
+    let word = if ok { "ok" } else { "wrong" };
+    println!(rt; " {word}")
 }
 
 // The end of the line of a call that leaves everything as it is, with its refusal number.
-pub fn gets(refusal: u64, ok: bool) {
-    number(b" gets ", refusal);
-    end(ok);
+pub fn gets(rt: &impl Print, refusal: u64, ok: bool) -> io::Result<()> {
+    number(rt, " gets ", refusal)?;
+    end(rt, ok)
 }
 
 // The bits of a word that are changed, in hexadecimal; nothing where none is.
-fn changed(bits: u32) {
+fn changed(rt: &impl Print, bits: u32) -> io::Result<()> {
     if bits != 0 {
-        text(b" word changed by ");
-        io::print_hex(STDOUT_FILENO, bits as u64, 8);
+        text(rt, " word changed by ")?;
+        print!(rt; "{bits:08x}")?;
     }
+    Ok(())
 }
 
 // The start of the line of a call by a head, of whose word these bits are changed, with an area.
-pub fn call(name: &[u8], code: u32, position: u64, bits: u32, area: usize) {
-    text(name);
-    word(b" code ", code);
-    number(b" at ", position);
-    changed(bits);
-    size(b" area ", area);
+pub fn call(
+    rt: &impl Print,
+    name: &str,
+    code: u32,
+    position: u64,
+    bits: u32,
+    area: usize,
+) -> io::Result<()> {
+    text(rt, name)?;
+    word(rt, " code ", code)?;
+    number(rt, " at ", position)?;
+    changed(rt, bits)?;
+    size(rt, " area ", area)
 }
 
 // The start of the line of a step of a cipher's story: the cipher, and its position.
-fn cipher_at(code: u32, position: u64) {
+fn cipher_at(rt: &impl Print, code: u32, position: u64) -> io::Result<()> {
     if code == 1 {
-        text(b"HC-128");
+        text(rt, "HC-128")?;
     } else {
-        text(b"HC-256");
+        text(rt, "HC-256")?;
     }
-    number(b" at ", position);
+    number(rt, " at ", position)
 }
 
 // The line of a step of a cipher's story, with its position.
-pub fn report(code: u32, position: u64, case: &[u8], ok: bool) {
-    cipher_at(code, position);
-    text(b" ");
-    text(case);
-    end(ok);
+pub fn report(rt: &impl Print, code: u32, position: u64, case: &str, ok: bool) -> io::Result<()> {
+    cipher_at(rt, code, position)?;
+    text(rt, " ")?;
+    text(rt, case)?;
+    end(rt, ok)
 }
 
 // The line of a step of a cipher's story, with its position and the scene that the step belongs to.
-pub fn report_in(code: u32, position: u64, scene: &[u8], case: &[u8], ok: bool) {
-    cipher_at(code, position);
-    text(b" ");
-    text(scene);
-    text(b", ");
-    text(case);
-    end(ok);
+pub fn report_in(
+    rt: &impl Print,
+    code: u32,
+    position: u64,
+    scene: &str,
+    case: &str,
+    ok: bool,
+) -> io::Result<()> {
+    cipher_at(rt, code, position)?;
+    text(rt, " ")?;
+    text(rt, scene)?;
+    text(rt, ", ")?;
+    text(rt, case)?;
+    end(rt, ok)
 }

@@ -10,6 +10,7 @@ use crate::refusals::{STRIDE, refuses_load, refuses_recover, refuses_write};
 use check::same;
 use engine::Head;
 use engine::answers::LoadAnswer;
+use std::io;
 
 // The bytes of a key, and of an IV.
 pub fn key_bytes(code: u32) -> usize
@@ -57,39 +58,54 @@ fn moves(code: u32, from: u64, distance: i64, to: u64, area: &mut [u32]) -> bool
 }
 
 // Two areas that hold different words are set up, one by a fresh head.
-fn begins(code: u32, area: &mut [u32], other: &mut [u32]) {
+fn begins(rt: &impl Print, code: u32, area: &mut [u32], other: &mut [u32]) -> io::Result<()> {
     let a = sets_up(Head::fresh(), code, area, 7);
     let b = sets_up(Head::at(3, 67_108_865, ANY, MARK), code, other, 9);
     let ok = a & b & !has_words(area, 7, STRIDE);
-    report(code, 0, b"set up", ok & same_words(area, other));
+    report(rt, code, 0, "set up", ok & same_words(area, other))
 }
 
 // Moves back to 0, to the tables that set up gives.
-fn goes_back(code: u32, from: u64, distance: i64, area: &mut [u32], other: &mut [u32]) {
+fn goes_back(
+    rt: &impl Print,
+    code: u32,
+    from: u64,
+    distance: i64,
+    area: &mut [u32],
+    other: &mut [u32],
+) -> io::Result<()> {
     let a = moves(code, from, distance, 0, area);
     let b = sets_up(Head::at(code, from, ANY, MARK), code, other, 9);
     report(
+        rt,
         code,
         from,
-        b"move back to 0",
+        "move back to 0",
         a & b & same_words(area, other),
-    );
+    )
 }
 
 // Enciphers bytes from 0 on; the other area is moved by as many.
 fn comes_to(
+    rt: &impl Print,
     code: u32,
     to: u64,
     distance: i64,
     area: &mut [u32],
     other: &mut [u32],
     bytes: &mut [u8],
-) {
+) -> io::Result<()> {
     fill_bytes(bytes, 5, 3);
     let a = ciphers(code, 0, to, area, bytes);
     let b = moves(code, 0, distance, to, other);
     let ok = a & b & !has_bytes(bytes, 5, 3);
-    report(code, to, b"encipher and move", ok & same_words(area, other));
+    report(
+        rt,
+        code,
+        to,
+        "encipher and move",
+        ok & same_words(area, other),
+    )
 }
 
 // Ciphers bytes in parts of 1 to 13 bytes, and gives the next head.
@@ -108,22 +124,24 @@ fn cipher_in_parts(head: Head, area: &mut [u32], bytes: &mut [u8]) -> Head {
 
 // Deciphers in parts what was enciphered at once; the other area is moved by as many.
 fn comes_again(
+    rt: &impl Print,
     code: u32,
     to: u64,
     distance: i64,
     area: &mut [u32],
     other: &mut [u32],
     bytes: &mut [u8],
-) {
+) -> io::Result<()> {
     let last = cipher_in_parts(Head::at(code, 0, 0, 0), area, bytes);
     let a = is_head(last, head_on(code, to, to, area)) & has_bytes(bytes, 5, 3);
     let b = moves(code, 0, distance, to, other);
     report(
+        rt,
         code,
         to,
-        b"decipher in parts",
+        "decipher in parts",
         a & b & same_words(area, other),
-    );
+    )
 }
 
 // Whether a string is the bytes of a position and the words of the tables, and nothing else.
@@ -141,7 +159,14 @@ fn is_checkpoint(string: &[u8], code: u32, position: &[u8], area: &[u32]) -> boo
 }
 
 // Writes a checkpoint and gives its length; later bytes stay.
-fn writes(code: u32, at: u64, position: &[u8], area: &[u32], lent: &mut [u8]) -> usize {
+fn writes(
+    rt: &impl Print,
+    code: u32,
+    at: u64,
+    position: &[u8],
+    area: &[u32],
+    lent: &mut [u8],
+) -> io::Result<usize> {
     fill_bytes(lent, 165, 0);
     let head = head_on(code, at, MARK, area);
     let done = head.write(area, lent);
@@ -152,12 +177,13 @@ fn writes(code: u32, at: u64, position: &[u8], area: &[u32], lent: &mut [u8]) ->
     let given = (answer.refusal == 0) & (length == n) & is_head(kept, head);
     let written = is_checkpoint(&lent[..n], code, position, area);
     report(
+        rt,
         code,
         at,
-        b"write",
+        "write",
         given & written & has_bytes(&lent[n..], 165, 0),
-    );
-    n
+    )?;
+    Ok(n)
 }
 
 // Whether eight words are n words of the key or the IV that begins with this word, and then 0.
@@ -186,37 +212,53 @@ fn loads(code: u32, at: u64, string: &[u8], area: &[u32], other: &mut [u32]) -> 
 
 // Writes a checkpoint, loads it into another area, and gives its length.
 fn writes_and_loads(
+    rt: &impl Print,
     code: u32,
     at: u64,
     position: &[u8],
     area: &[u32],
     other: &mut [u32],
     lent: &mut [u8],
-) -> usize {
-    let n = least(writes(code, at, position, area, lent), lent.len());
-    report(code, at, b"load", loads(code, at, &lent[..n], area, other));
-    n
+) -> io::Result<usize> {
+    let n = least(writes(rt, code, at, position, area, lent)?, lent.len());
+    report(
+        rt,
+        code,
+        at,
+        "load",
+        loads(code, at, &lent[..n], area, other),
+    )?;
+    Ok(n)
 }
 
 // Write gets 8 where this many bytes are lent, one too few.
-fn one_too_few(code: u32, at: u64, bytes: usize, area: &[u32])
+fn one_too_few(rt: &impl Print, code: u32, at: u64, bytes: usize, area: &[u32]) -> io::Result<()>
     requires { bytes ≤ 8196 }
 {
     let mut lent = [0u8; 8196];
     let ok = refuses_write(head_on(code, at, MARK, area), area, &mut lent[..bytes], 8);
-    report(code, at, b"write 8 one byte too few", ok);
+    report(rt, code, at, "write 8 one byte too few", ok)
 }
 
 // A checkpoint written where just as many bytes are lent as it has, and not where one fewer is, and loaded.
-fn checkpoint(code: u32, at: u64, position: &[u8], area: &[u32], other: &mut [u32]) {
+fn checkpoint(
+    rt: &impl Print,
+    code: u32,
+    at: u64,
+    position: &[u8],
+    area: &[u32],
+    other: &mut [u32],
+) -> io::Result<()> {
     let mut lent = [0u8; 8197];
     let n = checkpoint_bytes(code, position);
-    one_too_few(code, at, n - 1, area);
-    writes_and_loads(code, at, position, area, other, &mut lent[..n]);
+    one_too_few(rt, code, at, n - 1, area)?;
+    writes_and_loads(rt, code, at, position, area, other, &mut lent[..n])?;
+    Ok(())
 }
 
 // Moves to another position, and writes and loads the checkpoint there.
 fn checkpoint_on(
+    rt: &impl Print,
     code: u32,
     from: u64,
     distance: i64,
@@ -224,84 +266,147 @@ fn checkpoint_on(
     position: &[u8],
     area: &mut [u32],
     other: &mut [u32],
-) {
+) -> io::Result<()> {
     let ok = moves(code, from, distance, to, area);
-    report(code, to, b"move", ok);
-    checkpoint(code, to, position, area, other);
+    report(rt, code, to, "move", ok)?;
+    checkpoint(rt, code, to, position, area, other)
 }
 
 // Load of the checkpoint at 8195 gets 12 where this byte is changed; the byte is then put back.
-fn load_changed(code: u32, case: &[u8], at: usize, byte: u8, string: &mut [u8], other: &mut [u32]) {
+fn load_changed(
+    rt: &impl Print,
+    code: u32,
+    case: &str,
+    at: usize,
+    byte: u8,
+    string: &mut [u8],
+    other: &mut [u32],
+) -> io::Result<()> {
     let was = change(string, at, byte);
     let ok = refuses_load(string, other, 12);
     change(string, at, was);
-    report(code, 8195, case, ok & (was != byte));
+    report(rt, code, 8195, case, ok & (was != byte))
 }
 
 // Loads of the checkpoint at 8195 with a byte of its tables changed, or its position into that of another word.
-fn loads_changed(code: u32, string: &mut [u8], other: &mut [u32]) {
+fn loads_changed(
+    rt: &impl Print,
+    code: u32,
+    string: &mut [u8],
+    other: &mut [u32],
+) -> io::Result<()> {
     let last = string.len() - least(1, string.len());
-    load_changed(code, b"load 12 first word changed", 3, 0, string, other);
-    load_changed(code, b"load 12 last word changed", last, 0, string, other);
-    load_changed(code, b"load 12 as at 8192", 1, 0x80, string, other);
-    load_changed(code, b"load 12 as at 8197", 1, 0x85, string, other);
+    load_changed(rt, code, "load 12 first word changed", 3, 0, string, other)?;
+    load_changed(
+        rt,
+        code,
+        "load 12 last word changed",
+        last,
+        0,
+        string,
+        other,
+    )?;
+    load_changed(rt, code, "load 12 as at 8192", 1, 0x80, string, other)?;
+    load_changed(rt, code, "load 12 as at 8197", 1, 0x85, string, other)
 }
 
 // Load of the checkpoint at 8195 at another position of the same word, of which the lowest group is given.
-fn load_in_word(code: u32, at: u64, group: u8, string: &mut [u8], area: &[u32], other: &mut [u32]) {
+fn load_in_word(
+    rt: &impl Print,
+    code: u32,
+    at: u64,
+    group: u8,
+    string: &mut [u8],
+    area: &[u32],
+    other: &mut [u32],
+) -> io::Result<()> {
     let was = change(string, 1, group);
     let ok = loads(code, at, string, area, other);
-    report(code, at, b"load in the same word", ok & (was != group));
+    report(rt, code, at, "load in the same word", ok & (was != group))
 }
 
 // The checkpoint at 8195, which lies inside a word, past a turn of both tables of either cipher.
-fn checkpoint_in_word(code: u32, area: &[u32], other: &mut [u32], lent: &mut [u8]) {
-    let n = writes_and_loads(code, 8195, b"\x83\x40", area, other, lent);
+fn checkpoint_in_word(
+    rt: &impl Print,
+    code: u32,
+    area: &[u32],
+    other: &mut [u32],
+    lent: &mut [u8],
+) -> io::Result<()> {
+    let n = writes_and_loads(rt, code, 8195, b"\x83\x40", area, other, lent)?;
     let m = least(n, lent.len());
-    loads_changed(code, &mut lent[..m], other);
-    load_in_word(code, 8193, 0x81, &mut lent[..m], area, other);
-    load_in_word(code, 8196, 0x84, &mut lent[..m], area, other);
+    loads_changed(rt, code, &mut lent[..m], other)?;
+    load_in_word(rt, code, 8193, 0x81, &mut lent[..m], area, other)?;
+    load_in_word(rt, code, 8196, 0x84, &mut lent[..m], area, other)
 }
 
 // From 8195 on to 8972: enciphered with the tables, and deciphered with the tables that were loaded.
-fn goes_on(code: u32, area: &mut [u32], other: &mut [u32], bytes: &mut [u8]) {
+fn goes_on(
+    rt: &impl Print,
+    code: u32,
+    area: &mut [u32],
+    other: &mut [u32],
+    bytes: &mut [u8],
+) -> io::Result<()> {
     fill_bytes(bytes, 11, 7);
     let a = ciphers(code, 8195, 8972, area, bytes) & !has_bytes(bytes, 11, 7);
     let b = ciphers(code, 8195, 8972, other, bytes) & has_bytes(bytes, 11, 7);
     let ok = a & b & same_words(area, other);
-    report(code, 8972, b"encipher, and decipher after a load", ok);
+    report(rt, code, 8972, "encipher, and decipher after a load", ok)
 }
 
 // Recovers nothing at a position of another word, though the head's word is the one that the area has there.
-fn recovers_nothing(code: u32, later: u64, area: &[u32], key: &mut [u8], iv: &mut [u8]) {
+fn recovers_nothing(
+    rt: &impl Print,
+    code: u32,
+    later: u64,
+    area: &[u32],
+    key: &mut [u8],
+    iv: &mut [u8],
+) -> io::Result<()> {
     let none = refuses_recover(head_on(code, later, MARK, area), area, key, iv, 12);
-    report(code, later, b"recover 12 in another word", none);
+    report(rt, code, later, "recover 12 in another word", none)
 }
 
 // Recovers the key and the IV into buffers.
-fn recovers_both(code: u32, at: u64, area: &[u32], key: &mut [u8], iv: &mut [u8]) {
+fn recovers_both(
+    rt: &impl Print,
+    code: u32,
+    at: u64,
+    area: &[u32],
+    key: &mut [u8],
+    iv: &mut [u8],
+) -> io::Result<()> {
     let head = head_on(code, at, MARK, area);
     let done = head.recover(area, key, iv);
     let found = has_bytes(key, 1, 1) & has_bytes(iv, 33, 1);
-    report(code, at, b"recover", accepted(done, head) & found);
+    report(rt, code, at, "recover", accepted(done, head) & found)
 }
 
 // Recovers the key and the IV into buffers, and nothing at a position of another word.
-fn recovers_into(code: u32, at: u64, later: u64, area: &[u32], key: &mut [u8], iv: &mut [u8]) {
-    recovers_nothing(code, later, area, key, iv);
-    recovers_both(code, at, area, key, iv);
+fn recovers_into(
+    rt: &impl Print,
+    code: u32,
+    at: u64,
+    later: u64,
+    area: &[u32],
+    key: &mut [u8],
+    iv: &mut [u8],
+) -> io::Result<()> {
+    recovers_nothing(rt, code, later, area, key, iv)?;
+    recovers_both(rt, code, at, area, key, iv)
 }
 
 // Recovers the key and the IV.
-fn recovers(code: u32, at: u64, later: u64, area: &[u32]) {
+fn recovers(rt: &impl Print, code: u32, at: u64, later: u64, area: &[u32]) -> io::Result<()> {
     let mut key = [0u8; 32];
     let mut iv = [0u8; 32];
     let n = key_bytes(code);
-    recovers_into(code, at, later, area, &mut key[..n], &mut iv[..n]);
+    recovers_into(rt, code, at, later, area, &mut key[..n], &mut iv[..n])
 }
 
 // The last four bytes: at once in one area, and in the other a move by three and one byte, which is as the last of the four.
-fn last_bytes(code: u32, area: &mut [u32], other: &mut [u32]) {
+fn last_bytes(rt: &impl Print, code: u32, area: &mut [u32], other: &mut [u32]) -> io::Result<()> {
     let mut four = [0u8; 4];
     let mut one = [0u8; 1];
     let a = ciphers(code, 67_108_860, 67_108_864, area, &mut four);
@@ -309,53 +414,61 @@ fn last_bytes(code: u32, area: &mut [u32], other: &mut [u32]) {
     let c = ciphers(code, 67_108_863, 67_108_864, other, &mut one);
     let ok = a & b & c & (one[0] == four[3]) & same_words(area, other);
     report(
+        rt,
         code,
         67_108_863,
-        b"cipher one byte, as the last of four",
+        "cipher one byte, as the last of four",
         ok,
-    );
+    )
 }
 
 // Set up, to 3 and back.
-fn first_steps(code: u32, area: &mut [u32], other: &mut [u32]) {
+fn first_steps(rt: &impl Print, code: u32, area: &mut [u32], other: &mut [u32]) -> io::Result<()> {
     let mut three = [0u8; 3];
-    begins(code, area, other);
-    comes_to(code, 3, 3, area, other, &mut three);
-    goes_back(code, 3, -3, area, other);
+    begins(rt, code, area, other)?;
+    comes_to(rt, code, 3, 3, area, other, &mut three)?;
+    goes_back(rt, code, 3, -3, area, other)
 }
 
 // To 8195, and from a checkpoint on to 8972.
-fn forward(code: u32, area: &mut [u32], other: &mut [u32], text: &mut [u8]) {
+fn forward(
+    rt: &impl Print,
+    code: u32,
+    area: &mut [u32],
+    other: &mut [u32],
+    text: &mut [u8],
+) -> io::Result<()> {
     let mut lent = [0u8; 8200];
     let mut more = [0u8; 777];
-    comes_to(code, 8195, 8195, area, other, text);
-    checkpoint_in_word(code, area, other, &mut lent);
-    goes_on(code, area, other, &mut more);
+    comes_to(rt, code, 8195, 8195, area, other, text)?;
+    checkpoint_in_word(rt, code, area, other, &mut lent)?;
+    goes_on(rt, code, area, other, &mut more)
 }
 
 // From 8972 back to 0.
-fn back(code: u32, area: &mut [u32], other: &mut [u32]) {
-    recovers(code, 8972, 8976, area);
-    goes_back(code, 8972, -8972, area, other);
-    recovers(code, 0, 1, area);
-    checkpoint(code, 0, b"\x00", area, other);
+fn back(rt: &impl Print, code: u32, area: &mut [u32], other: &mut [u32]) -> io::Result<()> {
+    recovers(rt, code, 8972, 8976, area)?;
+    goes_back(rt, code, 8972, -8972, area, other)?;
+    recovers(rt, code, 0, 1, area)?;
+    checkpoint(rt, code, 0, b"\x00", area, other)
 }
 
 // From 0 to 128, where a position has two groups.
-fn two_groups(code: u32, area: &mut [u32], other: &mut [u32]) {
-    checkpoint_on(code, 0, 127, 127, b"\x7f", area, other);
-    checkpoint_on(code, 127, 1, 128, b"\x80\x01", area, other);
+fn two_groups(rt: &impl Print, code: u32, area: &mut [u32], other: &mut [u32]) -> io::Result<()> {
+    checkpoint_on(rt, code, 0, 127, 127, b"\x7f", area, other)?;
+    checkpoint_on(rt, code, 127, 1, 128, b"\x80\x01", area, other)
 }
 
 // From 128 to 16,384, where a position has three groups.
-fn three_groups(code: u32, area: &mut [u32], other: &mut [u32]) {
-    checkpoint_on(code, 128, 16_255, 16_383, b"\xff\x7f", area, other);
-    checkpoint_on(code, 16_383, 1, 16_384, b"\x80\x80\x01", area, other);
+fn three_groups(rt: &impl Print, code: u32, area: &mut [u32], other: &mut [u32]) -> io::Result<()> {
+    checkpoint_on(rt, code, 128, 16_255, 16_383, b"\xff\x7f", area, other)?;
+    checkpoint_on(rt, code, 16_383, 1, 16_384, b"\x80\x80\x01", area, other)
 }
 
 // From 16,384 to 2,097,152, where a position has four groups.
-fn four_groups(code: u32, area: &mut [u32], other: &mut [u32]) {
+fn four_groups(rt: &impl Print, code: u32, area: &mut [u32], other: &mut [u32]) -> io::Result<()> {
     checkpoint_on(
+        rt,
         code,
         16_384,
         2_080_767,
@@ -363,8 +476,9 @@ fn four_groups(code: u32, area: &mut [u32], other: &mut [u32]) {
         b"\xff\xff\x7f",
         area,
         other,
-    );
+    )?;
     checkpoint_on(
+        rt,
         code,
         2_097_151,
         1,
@@ -372,26 +486,27 @@ fn four_groups(code: u32, area: &mut [u32], other: &mut [u32]) {
         b"\x80\x80\x80\x01",
         area,
         other,
-    );
+    )
 }
 
 // From 0 past each position where the groups grow in number, and back to 0.
-fn groups(code: u32, area: &mut [u32], other: &mut [u32]) {
-    two_groups(code, area, other);
-    three_groups(code, area, other);
-    four_groups(code, area, other);
-    goes_back(code, 2_097_152, -2_097_152, area, other);
+fn groups(rt: &impl Print, code: u32, area: &mut [u32], other: &mut [u32]) -> io::Result<()> {
+    two_groups(rt, code, area, other)?;
+    three_groups(rt, code, area, other)?;
+    four_groups(rt, code, area, other)?;
+    goes_back(rt, code, 2_097_152, -2_097_152, area, other)
 }
 
 // To 3, then past each position where the groups grow in number, and each time back to 0.
-fn early(code: u32, area: &mut [u32], other: &mut [u32]) {
-    first_steps(code, area, other);
-    groups(code, area, other);
+fn early(rt: &impl Print, code: u32, area: &mut [u32], other: &mut [u32]) -> io::Result<()> {
+    first_steps(rt, code, area, other)?;
+    groups(rt, code, area, other)
 }
 
 // From 8195 to the stream limit, and all the way back.
-fn limit(code: u32, area: &mut [u32], other: &mut [u32]) {
+fn limit(rt: &impl Print, code: u32, area: &mut [u32], other: &mut [u32]) -> io::Result<()> {
     checkpoint_on(
+        rt,
         code,
         8195,
         67_100_665,
@@ -399,26 +514,26 @@ fn limit(code: u32, area: &mut [u32], other: &mut [u32]) {
         b"\xfc\xff\xff\x1f",
         area,
         other,
-    );
-    last_bytes(code, area, other);
-    checkpoint(code, 67_108_864, b"\x80\x80\x80\x20", area, other);
-    goes_back(code, 67_108_864, -67_108_864, area, other);
+    )?;
+    last_bytes(rt, code, area, other)?;
+    checkpoint(rt, code, 67_108_864, b"\x80\x80\x80\x20", area, other)?;
+    goes_back(rt, code, 67_108_864, -67_108_864, area, other)
 }
 
 // The whole story.
-fn scenes(code: u32, area: &mut [u32], other: &mut [u32]) {
+fn scenes(rt: &impl Print, code: u32, area: &mut [u32], other: &mut [u32]) -> io::Result<()> {
     let mut text = [0u8; 8195];
-    early(code, area, other);
-    forward(code, area, other, &mut text);
-    back(code, area, other);
-    comes_again(code, 8195, 8195, area, other, &mut text);
-    limit(code, area, other);
+    early(rt, code, area, other)?;
+    forward(rt, code, area, other, &mut text)?;
+    back(rt, code, area, other)?;
+    comes_again(rt, code, 8195, 8195, area, other, &mut text)?;
+    limit(rt, code, area, other)
 }
 
 // The story of a cipher.
-pub fn of_cipher(code: u32) {
+pub fn of_cipher(rt: &impl Print, code: u32) -> io::Result<()> {
     let mut area = [0u32; 2048];
     let mut other = [0u32; 2048];
     let n = area_words(code);
-    scenes(code, &mut area[..n], &mut other[..n]);
+    scenes(rt, code, &mut area[..n], &mut other[..n])
 }

@@ -13,6 +13,7 @@ use crate::refusals::{
 use crate::story::{area_words, key_bytes, sets_up};
 use engine::Head;
 use engine::answers::LoadDone;
+use std::io;
 
 // The lowest bit of a word.
 const LOW: u32 = 1;
@@ -23,84 +24,84 @@ const HIGH: u32 = 0x80000000;
 // ---- where 13 stands among the refusals
 
 // A code that is neither cipher's gets 1 from the four calls that take a head and an area, whatever the word.
-fn unknown_code(code: u32, key: usize, area: usize)
+fn unknown_code(rt: &impl Print, code: u32, key: usize, area: usize) -> io::Result<()>
     requires { (key ≤ 32) × (area ≤ 2048) }
 {
-    cipher_changed(code, 77, LOW, area, 5, 1);
-    move_changed(code, 77, LOW, area, 1, 1);
-    write_changed(code, 77, LOW, area, 8197, 1);
-    recover_changed(code, 77, LOW, area, key, key, 1);
+    cipher_changed(rt, code, 77, LOW, area, 5, 1)?;
+    move_changed(rt, code, 77, LOW, area, 1, 1)?;
+    write_changed(rt, code, 77, LOW, area, 8197, 1)?;
+    recover_changed(rt, code, 77, LOW, area, key, key, 1)
 }
 
 // A false word comes after 1, also where the low bits of the code are a cipher's.
-pub fn unknown_codes() {
-    unknown_code(0, 16, 1024);
-    unknown_code(257, 16, 1024);
-    unknown_code(16_777_218, 32, 2048);
+pub fn unknown_codes(rt: &impl Print) -> io::Result<()> {
+    unknown_code(rt, 0, 16, 1024)?;
+    unknown_code(rt, 257, 16, 1024)?;
+    unknown_code(rt, 16_777_218, 32, 2048)
 }
 
 // In cipher a false word comes after 4 and 5, and before 6; also at 0, at the limit, and where there are no bytes.
-fn cipher_cases(code: u32, area: usize)
+fn cipher_cases(rt: &impl Print, code: u32, area: usize) -> io::Result<()>
     requires { (1 ≤ area) × (area ≤ 2048) }
 {
-    cipher_changed(code, 77, LOW, area - 1, 5, 4);
-    cipher_changed(code, 67_108_865, LOW, area, 5, 5);
-    cipher_changed(code, 0, LOW, area, 5, 13);
-    cipher_changed(code, 0, HIGH, area, 0, 13);
-    cipher_changed(code, 77, LOW, area, 5, 13);
-    cipher_changed(code, 77, HIGH, area, 0, 13);
-    cipher_changed(code, 67_108_860, LOW, area, 5, 13);
-    cipher_changed(code, 67_108_864, HIGH, area, 0, 13);
+    cipher_changed(rt, code, 77, LOW, area - 1, 5, 4)?;
+    cipher_changed(rt, code, 67_108_865, LOW, area, 5, 5)?;
+    cipher_changed(rt, code, 0, LOW, area, 5, 13)?;
+    cipher_changed(rt, code, 0, HIGH, area, 0, 13)?;
+    cipher_changed(rt, code, 77, LOW, area, 5, 13)?;
+    cipher_changed(rt, code, 77, HIGH, area, 0, 13)?;
+    cipher_changed(rt, code, 67_108_860, LOW, area, 5, 13)?;
+    cipher_changed(rt, code, 67_108_864, HIGH, area, 0, 13)
 }
 
 // In move a false word comes after 4 and 5, and before 7 and 6; also at 0, at the limit, and where the distance is 0.
-fn move_cases(code: u32, area: usize)
+fn move_cases(rt: &impl Print, code: u32, area: usize) -> io::Result<()>
     requires { (1 ≤ area) × (area ≤ 2048) }
 {
-    move_changed(code, 77, LOW, area + 1, 1, 4);
-    move_changed(code, 67_108_865, LOW, area, 1, 5);
-    move_changed(code, 0, LOW, area, -1, 13);
-    move_changed(code, 0, HIGH, area, 0, 13);
-    move_changed(code, 77, LOW, area, -78, 13);
-    move_changed(code, 77, HIGH, area, 0, 13);
-    move_changed(code, 67_108_863, LOW, area, 2, 13);
-    move_changed(code, 67_108_864, HIGH, area, i64::MAX, 13);
+    move_changed(rt, code, 77, LOW, area + 1, 1, 4)?;
+    move_changed(rt, code, 67_108_865, LOW, area, 1, 5)?;
+    move_changed(rt, code, 0, LOW, area, -1, 13)?;
+    move_changed(rt, code, 0, HIGH, area, 0, 13)?;
+    move_changed(rt, code, 77, LOW, area, -78, 13)?;
+    move_changed(rt, code, 77, HIGH, area, 0, 13)?;
+    move_changed(rt, code, 67_108_863, LOW, area, 2, 13)?;
+    move_changed(rt, code, 67_108_864, HIGH, area, i64::MAX, 13)
 }
 
 // In write a false word comes after 4 and 5, and before 8; also at 0 and at the limit. The cipher has this number of bytes for its words.
-fn write_cases(code: u32, area: usize, tables: usize)
+fn write_cases(rt: &impl Print, code: u32, area: usize, tables: usize) -> io::Result<()>
     requires { (1 ≤ area) × (area ≤ 2048) × (tables ≤ 8192) }
 {
-    write_changed(code, 77, LOW, area - 1, tables + 2, 4);
-    write_changed(code, 67_108_865, LOW, area, tables + 5, 5);
-    write_changed(code, 0, LOW, area, tables + 2, 13);
-    write_changed(code, 0, HIGH, area, 0, 13);
-    write_changed(code, 77, LOW, area, tables + 1, 13);
-    write_changed(code, 77, HIGH, area, tables + 2, 13);
-    write_changed(code, 67_108_864, LOW, area, tables + 5, 13);
+    write_changed(rt, code, 77, LOW, area - 1, tables + 2, 4)?;
+    write_changed(rt, code, 67_108_865, LOW, area, tables + 5, 5)?;
+    write_changed(rt, code, 0, LOW, area, tables + 2, 13)?;
+    write_changed(rt, code, 0, HIGH, area, 0, 13)?;
+    write_changed(rt, code, 77, LOW, area, tables + 1, 13)?;
+    write_changed(rt, code, 77, HIGH, area, tables + 2, 13)?;
+    write_changed(rt, code, 67_108_864, LOW, area, tables + 5, 13)
 }
 
 // In recover a false word comes after 4 and 5, and before 2, 3 and 12; also at 0 and at the limit.
-fn recover_cases(code: u32, area: usize, key: usize)
+fn recover_cases(rt: &impl Print, code: u32, area: usize, key: usize) -> io::Result<()>
     requires { (1 ≤ area) × (area ≤ 2048) × (1 ≤ key) × (key ≤ 32) }
 {
-    recover_changed(code, 77, LOW, area + 1, key, key, 4);
-    recover_changed(code, 67_108_865, LOW, area, key, key, 5);
-    recover_changed(code, 0, LOW, area, key, key, 13);
-    recover_changed(code, 77, LOW, area, key - 1, key, 13);
-    recover_changed(code, 77, LOW, area, key, key + 1, 13);
-    recover_changed(code, 77, HIGH, area, key, key, 13);
-    recover_changed(code, 67_108_864, LOW, area, key, key, 13);
+    recover_changed(rt, code, 77, LOW, area + 1, key, key, 4)?;
+    recover_changed(rt, code, 67_108_865, LOW, area, key, key, 5)?;
+    recover_changed(rt, code, 0, LOW, area, key, key, 13)?;
+    recover_changed(rt, code, 77, LOW, area, key - 1, key, 13)?;
+    recover_changed(rt, code, 77, LOW, area, key, key + 1, 13)?;
+    recover_changed(rt, code, 77, HIGH, area, key, key, 13)?;
+    recover_changed(rt, code, 67_108_864, LOW, area, key, key, 13)
 }
 
 // The place of 13 in the calls of a cipher, with the length of its key and IV, the words of its area and the bytes of those words.
-pub fn places(code: u32, key: usize, area: usize, tables: usize)
+pub fn places(rt: &impl Print, code: u32, key: usize, area: usize, tables: usize) -> io::Result<()>
     requires { (1 ≤ key) × (key ≤ 32) × (1 ≤ area) × (area ≤ 2048) × (tables ≤ 8192) }
 {
-    cipher_cases(code, area);
-    move_cases(code, area);
-    write_cases(code, area, tables);
-    recover_cases(code, area, key);
+    cipher_cases(rt, code, area)?;
+    move_cases(rt, code, area)?;
+    write_cases(rt, code, area, tables)?;
+    recover_cases(rt, code, area, key)
 }
 
 // ---- what the word is
@@ -125,70 +126,96 @@ fn word_of(four: &[u8; 4]) -> u32 {
 }
 
 // Moves, and enciphers four zero bytes, which are then keystream: the word is these four bytes, and the mark is their end. Gives the next head.
-fn four_more(head: Head, distance: i64, to: u64, area: &mut [u32]) -> Head {
+fn four_more(
+    rt: &impl Print,
+    head: Head,
+    distance: i64,
+    to: u64,
+    area: &mut [u32],
+) -> io::Result<Head> {
     let mut four = [0u8; 4];
     let start = moved(head, area, distance);
     let next = ciphered(start, area, &mut four);
     let ok = is_head(next, Head::at(head.code, to, word_of(&four), to));
-    report(head.code, to, b"word of the last four bytes", ok);
-    next
+    report(rt, head.code, to, "word of the last four bytes", ok)?;
+    Ok(next)
 }
 
 // Enciphers one byte; the word is then the given one, and the mark is the byte's end. Gives the next head.
-fn one_more(head: Head, to: u64, word: u32, case: &[u8], area: &mut [u32]) -> Head {
+fn one_more(
+    rt: &impl Print,
+    head: Head,
+    to: u64,
+    word: u32,
+    case: &str,
+    area: &mut [u32],
+) -> io::Result<Head> {
     let mut one = [0u8; 1];
     let next = ciphered(head, area, &mut one);
     let ok = is_head(next, Head::at(head.code, to, word, to));
-    report(head.code, to, case, ok);
-    next
+    report(rt, head.code, to, case, ok)?;
+    Ok(next)
 }
 
 // Positions 1 to 4 have one word, that of keystream bytes 0 to 3. Gives the head at 4.
-fn first_word(head: Head, word: u32, area: &mut [u32]) -> Head {
-    let a = one_more(head, 1, word, b"word of bytes 0 to 3", area);
-    let b = one_more(a, 2, word, b"word of bytes 0 to 3", area);
-    let c = one_more(b, 3, word, b"word of bytes 0 to 3", area);
-    one_more(c, 4, word, b"word of bytes 0 to 3", area)
+fn first_word(rt: &impl Print, head: Head, word: u32, area: &mut [u32]) -> io::Result<Head> {
+    let a = one_more(rt, head, 1, word, "word of bytes 0 to 3", area)?;
+    let b = one_more(rt, a, 2, word, "word of bytes 0 to 3", area)?;
+    let c = one_more(rt, b, 3, word, "word of bytes 0 to 3", area)?;
+    one_more(rt, c, 4, word, "word of bytes 0 to 3", area)
 }
 
 // Positions 5 to 8 have one word, that of keystream bytes 4 to 7.
-fn second_word(head: Head, word: u32, area: &mut [u32]) {
-    let a = one_more(head, 5, word, b"word of bytes 4 to 7", area);
-    let b = one_more(a, 6, word, b"word of bytes 4 to 7", area);
-    let c = one_more(b, 7, word, b"word of bytes 4 to 7", area);
-    one_more(c, 8, word, b"word of bytes 4 to 7", area);
+fn second_word(rt: &impl Print, head: Head, word: u32, area: &mut [u32]) -> io::Result<()> {
+    let a = one_more(rt, head, 5, word, "word of bytes 4 to 7", area)?;
+    let b = one_more(rt, a, 6, word, "word of bytes 4 to 7", area)?;
+    let c = one_more(rt, b, 7, word, "word of bytes 4 to 7", area)?;
+    one_more(rt, c, 8, word, "word of bytes 4 to 7", area)?;
+    Ok(())
 }
 
 // Two areas are set up by heads with other words and marks, and word and mark are then 0.
-fn begins(code: u32, area: &mut [u32], other: &mut [u32]) {
+fn begins(rt: &impl Print, code: u32, area: &mut [u32], other: &mut [u32]) -> io::Result<()> {
     let a = sets_up(Head::at(code, 77, ANY, MARK), code, area, 7);
     let b = sets_up(Head::at(3, 0, ANY, MARK), code, other, 9);
-    report(code, 0, b"word 0 after set up", a & b);
+    report(rt, code, 0, "word 0 after set up", a & b)
 }
 
 // The first two words are worked out four bytes at a time with one area, and byte by byte with the other. Gives the head at 8.
-fn first_words(code: u32, area: &mut [u32], other: &mut [u32]) -> Head {
-    let four = four_more(Head::at(code, 0, 0, 0), 0, 4, other);
-    let here = first_word(Head::at(code, 0, 0, 0), four.word, area);
-    let eight = four_more(four, 0, 8, other);
-    report(code, 5, b"another word than at 4", eight.word != four.word);
-    second_word(here, eight.word, area);
-    eight
+fn first_words(
+    rt: &impl Print,
+    code: u32,
+    area: &mut [u32],
+    other: &mut [u32],
+) -> io::Result<Head> {
+    let four = four_more(rt, Head::at(code, 0, 0, 0), 0, 4, other)?;
+    let here = first_word(rt, Head::at(code, 0, 0, 0), four.word, area)?;
+    let eight = four_more(rt, four, 0, 8, other)?;
+    report(
+        rt,
+        code,
+        5,
+        "another word than at 4",
+        eight.word != four.word,
+    )?;
+    second_word(rt, here, eight.word, area)?;
+    Ok(eight)
 }
 
 // From 8 to 4,100: the last word of a turn and the first of the next, at two ends of turns of HC-128 and one of HC-256.
-fn turn_words(head: Head, area: &mut [u32]) -> Head {
-    let a = four_more(head, 2_036, 2_048, area);
-    let b = four_more(a, 0, 2_052, area);
-    let c = four_more(b, 2_040, 4_096, area);
-    four_more(c, 0, 4_100, area)
+fn turn_words(rt: &impl Print, head: Head, area: &mut [u32]) -> io::Result<Head> {
+    let a = four_more(rt, head, 2_036, 2_048, area)?;
+    let b = four_more(rt, a, 0, 2_052, area)?;
+    let c = four_more(rt, b, 2_040, 4_096, area)?;
+    four_more(rt, c, 0, 4_100, area)
 }
 
 // From 4,100 to the limit: the last word of a turn of either cipher and the first of the next, and the last word of the stream.
-fn last_words(head: Head, area: &mut [u32]) {
-    let a = four_more(head, 4_088, 8_192, area);
-    let b = four_more(a, 0, 8_196, area);
-    four_more(b, 67_100_664, 67_108_864, area);
+fn last_words(rt: &impl Print, head: Head, area: &mut [u32]) -> io::Result<()> {
+    let a = four_more(rt, head, 4_088, 8_192, area)?;
+    let b = four_more(rt, a, 0, 8_196, area)?;
+    four_more(rt, b, 67_100_664, 67_108_864, area)?;
+    Ok(())
 }
 
 // The head after two calls, of two and of three bytes.
@@ -208,40 +235,47 @@ fn in_parts(head: Head, area: &mut [u32]) -> bool {
 }
 
 // Another area comes to 11 by two or three bytes a time.
-fn word_in_parts(head: Head, other: &mut [u32]) {
+fn word_in_parts(rt: &impl Print, head: Head, other: &mut [u32]) -> io::Result<()> {
     let a = sets_up(head, head.code, other, 9);
     let ok = in_parts(head, other);
     report(
+        rt,
         head.code,
         11,
-        b"word after two or three bytes a time",
+        "word after two or three bytes a time",
         a & ok,
-    );
+    )
 }
 
 // Another area comes to 11 by a move, which leaves the mark at 0.
-fn word_by_move(head: Head, other: &mut [u32]) {
+fn word_by_move(rt: &impl Print, head: Head, other: &mut [u32]) -> io::Result<()> {
     let a = sets_up(head, head.code, other, 9);
     let next = moved(Head::at(head.code, 0, 0, 0), other, 11);
     let ok = a & is_head(next, Head::at(head.code, 11, head.word, 0));
-    report(head.code, 11, b"word after a move", ok);
+    report(rt, head.code, 11, "word after a move", ok)
 }
 
 // An area at 11 is moved by a turn of both tables of either cipher, and back.
-fn word_there_and_back(head: Head, other: &mut [u32]) {
+fn word_there_and_back(rt: &impl Print, head: Head, other: &mut [u32]) -> io::Result<()> {
     let there = moved(head, other, 8_192);
     let next = moved(there, other, -8_192);
     let ok = is_head(next, head) & (there.word != head.word);
-    report(head.code, 11, b"word after a move there and back", ok);
+    report(rt, head.code, 11, "word after a move there and back", ok)
 }
 
 // Calls with nothing to do leave the word as it is.
-fn word_after_nothing(head: Head, other: &mut [u32]) {
+fn word_after_nothing(rt: &impl Print, head: Head, other: &mut [u32]) -> io::Result<()> {
     let mut none = [0u8; 0];
     let a = ciphered(head, other, &mut none);
-    report(head.code, 11, b"word after no bytes", is_head(a, head));
+    report(rt, head.code, 11, "word after no bytes", is_head(a, head))?;
     let b = moved(head, other, 0);
-    report(head.code, 11, b"word after a move by 0", is_head(b, head));
+    report(
+        rt,
+        head.code,
+        11,
+        "word after a move by 0",
+        is_head(b, head),
+    )
 }
 
 // What load by one head gives of the checkpoint that another head writes, which is empty where write is refused.
@@ -263,35 +297,47 @@ fn loads_written(over: Head, head: Head, area: &[u32], other: &mut [u32]) -> boo
 }
 
 // At 11 the word is the same by every way there: the head and its area came there by 11 bytes at once.
-fn same_word(head: Head, area: &[u32], other: &mut [u32]) {
-    word_in_parts(head, other);
-    word_by_move(head, other);
-    word_there_and_back(head, other);
-    word_after_nothing(head, other);
+fn same_word(rt: &impl Print, head: Head, area: &[u32], other: &mut [u32]) -> io::Result<()> {
+    word_in_parts(rt, head, other)?;
+    word_by_move(rt, head, other)?;
+    word_there_and_back(rt, head, other)?;
+    word_after_nothing(rt, head, other)?;
     let ok = loads_written(Head::fresh(), head, area, other);
-    report(head.code, 11, b"word after a load", ok);
+    report(rt, head.code, 11, "word after a load", ok)
 }
 
 // ---- calls with a false word
 
 // Cipher by a head gets 13, and the area is as its copy.
-fn cipher_13(head: Head, scene: &[u8], area: &mut [u32], kept: &[u32]) {
+fn cipher_13(
+    rt: &impl Print,
+    head: Head,
+    scene: &str,
+    area: &mut [u32],
+    kept: &[u32],
+) -> io::Result<()> {
     let mut bytes = [0u8; 5];
     let ok = refuses_cipher(head, area, &mut bytes, 13) & same_words(area, kept);
-    report_in(head.code, head.position, scene, b"cipher 13", ok);
+    report_in(rt, head.code, head.position, scene, "cipher 13", ok)
 }
 
 // Move by a head gets 13, and the area is as its copy.
-fn move_13(head: Head, scene: &[u8], area: &mut [u32], kept: &[u32]) {
+fn move_13(
+    rt: &impl Print,
+    head: Head,
+    scene: &str,
+    area: &mut [u32],
+    kept: &[u32],
+) -> io::Result<()> {
     let ok = refuses_move(head, area, 1, 13) & same_words(area, kept);
-    report_in(head.code, head.position, scene, b"move 13", ok);
+    report_in(rt, head.code, head.position, scene, "move 13", ok)
 }
 
 // Write by a head gets 13.
-fn write_13(head: Head, scene: &[u8], area: &[u32]) {
+fn write_13(rt: &impl Print, head: Head, scene: &str, area: &[u32]) -> io::Result<()> {
     let mut lent = [0u8; 8197];
     let ok = refuses_write(head, area, &mut lent, 13);
-    report_in(head.code, head.position, scene, b"write 13", ok);
+    report_in(rt, head.code, head.position, scene, "write 13", ok)
 }
 
 // Whether recover by a head gets a refusal number and the buffers stay, or, with the number 0, the buffers then hold the story's key and IV.
@@ -312,17 +358,23 @@ fn recovers(head: Head, area: &[u32], refusal: u64) -> bool {
 }
 
 // Recover by a head gets 13.
-fn recover_13(head: Head, scene: &[u8], area: &[u32]) {
+fn recover_13(rt: &impl Print, head: Head, scene: &str, area: &[u32]) -> io::Result<()> {
     let ok = recovers(head, area, 13);
-    report_in(head.code, head.position, scene, b"recover 13", ok);
+    report_in(rt, head.code, head.position, scene, "recover 13", ok)
 }
 
 // The four calls that take a head and an area get 13 and change nothing. A copy of the area was kept.
-fn all_13(head: Head, scene: &[u8], area: &mut [u32], kept: &[u32]) {
-    cipher_13(head, scene, area, kept);
-    move_13(head, scene, area, kept);
-    write_13(head, scene, area);
-    recover_13(head, scene, area);
+fn all_13(
+    rt: &impl Print,
+    head: Head,
+    scene: &str,
+    area: &mut [u32],
+    kept: &[u32],
+) -> io::Result<()> {
+    cipher_13(rt, head, scene, area, kept)?;
+    move_13(rt, head, scene, area, kept)?;
+    write_13(rt, head, scene, area)?;
+    recover_13(rt, head, scene, area)
 }
 
 // Whether cipher accepts a head at 11, and a move back then gives the same head but for the mark, which stays at 16.
@@ -343,130 +395,163 @@ fn accepts_write(head: Head, area: &[u32]) -> bool {
 }
 
 // The four calls accept the true word, so that a false one is all that they refused. A copy of the area was kept.
-fn all_accept(head: Head, area: &mut [u32], kept: &[u32]) {
+fn all_accept(rt: &impl Print, head: Head, area: &mut [u32], kept: &[u32]) -> io::Result<()> {
     let a = goes_and_comes(head, area) & same_words(area, kept);
     let b = accepts_write(head, area) & recovers(head, area, 0);
     report(
+        rt,
         head.code,
         head.position,
-        b"true word accepted by the four calls",
+        "true word accepted by the four calls",
         a & b,
-    );
+    )
 }
 
 // Set up, load and spent do not look at the word: they accept a head at 11 whose word is false.
-fn not_looked_at(head: Head, area: &[u32], other: &mut [u32]) {
+fn not_looked_at(rt: &impl Print, head: Head, area: &[u32], other: &mut [u32]) -> io::Result<()> {
     let code = head.code;
     let false_head = flipped(head, LOW);
     let a = sets_up(false_head, code, other, 9);
-    report_in(code, 11, b"false word", b"set up", a);
+    report_in(rt, code, 11, "false word", "set up", a)?;
     let b = loads_written(false_head, head, area, other);
-    report_in(code, 11, b"false word", b"load", b);
+    report_in(rt, code, 11, "false word", "load", b)?;
     report_in(
+        rt,
         code,
         11,
-        b"false word",
-        b"spent",
+        "false word",
+        "spent",
         has_spent(false_head, 0, MARK),
-    );
+    )
 }
 
 // At 11 the word 0 is false, and so is the true word with one bit changed. A copy of the area was kept.
-fn false_words(head: Head, area: &mut [u32], kept: &[u32]) {
-    all_13(Head::at(head.code, 11, 0, MARK), b"word 0", area, kept);
-    all_13(flipped(head, LOW), b"lowest bit changed", area, kept);
-    all_13(flipped(head, HIGH), b"highest bit changed", area, kept);
-    all_accept(head, area, kept);
+fn false_words(rt: &impl Print, head: Head, area: &mut [u32], kept: &[u32]) -> io::Result<()> {
+    all_13(rt, Head::at(head.code, 11, 0, MARK), "word 0", area, kept)?;
+    all_13(rt, flipped(head, LOW), "lowest bit changed", area, kept)?;
+    all_13(rt, flipped(head, HIGH), "highest bit changed", area, kept)?;
+    all_accept(rt, head, area, kept)
 }
 
 // ---- a head and an area that were copied at different moments
 
 // The area is copied at 11, the box goes on by two calls, and the head is copied: the four calls get 13. Gives the head at 16.
-fn older_area(head: Head, area: &mut [u32], copy: &mut [u32], kept: &[u32]) -> Head {
+fn older_area(
+    rt: &impl Print,
+    head: Head,
+    area: &mut [u32],
+    copy: &mut [u32],
+    kept: &[u32],
+) -> io::Result<Head> {
     let later = five_more(head, area);
-    all_13(later, b"older area", copy, kept);
-    later
+    all_13(rt, later, "older area", copy, kept)?;
+    Ok(later)
 }
 
 // Write accepts a head and an area that do not belong together, and load then refuses the checkpoint with 12.
-fn unnoticed(head: Head, scene: &[u8], area: &[u32], other: &mut [u32]) {
+fn unnoticed(
+    rt: &impl Print,
+    head: Head,
+    scene: &str,
+    area: &[u32],
+    other: &mut [u32],
+) -> io::Result<()> {
     let a = accepts_write(head, area);
-    report_in(head.code, head.position, scene, b"write", a);
+    report_in(rt, head.code, head.position, scene, "write", a)?;
     let done = written_and_loaded(Head::fresh(), head, area, other);
     let answer = done.answer;
     let refused = answer.refusal == 12;
-    report_in(head.code, head.position, scene, b"load 12", refused);
+    report_in(rt, head.code, head.position, scene, "load 12", refused)
 }
 
 // The head is copied at 77, the box goes on by two calls, and the area is copied: in one turn, from its step 12 on, 13 does not notice that.
-fn later_area(head: Head, area: &mut [u32], other: &mut [u32]) {
+fn later_area(rt: &impl Print, head: Head, area: &mut [u32], other: &mut [u32]) -> io::Result<()> {
     let next = moved(head, area, 61);
     let later = five_more(next, area);
     let ok = (next.position == 77) & (later.word != next.word);
-    report(head.code, later.position, b"another word than at 77", ok);
-    unnoticed(next, b"later area", area, other);
+    report(rt, head.code, later.position, "another word than at 77", ok)?;
+    unnoticed(rt, next, "later area", area, other)
 }
 
 // At 0 the word is 0 with every area, and 13 notices nothing.
-fn any_area(code: u32, area: &mut [u32], other: &mut [u32]) {
+fn any_area(rt: &impl Print, code: u32, area: &mut [u32], other: &mut [u32]) -> io::Result<()> {
     fill_words(area, 7, STRIDE);
-    unnoticed(Head::at(code, 0, 0, MARK), b"any area", area, other);
+    unnoticed(rt, Head::at(code, 0, 0, MARK), "any area", area, other)
 }
 
 // ---- the scenes of a cipher
 
 // The word at 0, and from there to the limit.
-fn true_words(code: u32, area: &mut [u32], other: &mut [u32]) {
-    begins(code, area, other);
-    all_13(Head::at(code, 0, LOW, MARK), b"word 1", area, other);
-    let eight = first_words(code, area, other);
-    let later = turn_words(eight, other);
-    last_words(later, other);
+fn true_words(rt: &impl Print, code: u32, area: &mut [u32], other: &mut [u32]) -> io::Result<()> {
+    begins(rt, code, area, other)?;
+    all_13(rt, Head::at(code, 0, LOW, MARK), "word 1", area, other)?;
+    let eight = first_words(rt, code, area, other)?;
+    let later = turn_words(rt, eight, other)?;
+    last_words(rt, later, other)
 }
 
 // An area is set up and comes to 11 by one call. Gives the head.
-fn eleven(code: u32, area: &mut [u32]) -> Head {
+fn eleven(rt: &impl Print, code: u32, area: &mut [u32]) -> io::Result<Head> {
     let mut bytes = [0u8; 11];
     let done = sets_up(Head::fresh(), code, area, 7);
     let head = ciphered(Head::at(code, 0, 0, 0), area, &mut bytes);
     report(
+        rt,
         code,
         11,
-        b"word after 11 bytes at once",
+        "word after 11 bytes at once",
         done & (head.position == 11) & (head.word != 0) & (head.mark == 11),
-    );
-    head
+    )?;
+    Ok(head)
 }
 
 // True and false words at 11, where the head and the area are. Leaves a copy of the area.
-fn at_11(head: Head, area: &mut [u32], other: &mut [u32], kept: &mut [u32]) {
-    same_word(head, area, other);
-    not_looked_at(head, area, other);
+fn at_11(
+    rt: &impl Print,
+    head: Head,
+    area: &mut [u32],
+    other: &mut [u32],
+    kept: &mut [u32],
+) -> io::Result<()> {
+    same_word(rt, head, area, other)?;
+    not_looked_at(rt, head, area, other)?;
     copy_words(area, kept);
-    false_words(head, area, kept);
+    false_words(rt, head, area, kept)
 }
 
 // Heads and areas that were copied at different moments, from 11 on. A copy of the area at 11 was kept.
-fn copies(head: Head, area: &mut [u32], other: &mut [u32], kept: &[u32]) {
+fn copies(
+    rt: &impl Print,
+    head: Head,
+    area: &mut [u32],
+    other: &mut [u32],
+    kept: &[u32],
+) -> io::Result<()> {
     copy_words(kept, other);
-    let later = older_area(head, area, other, kept);
-    later_area(later, area, other);
-    any_area(head.code, area, other);
+    let later = older_area(rt, head, area, other, kept)?;
+    later_area(rt, later, area, other)?;
+    any_area(rt, head.code, area, other)
 }
 
 // The scenes of a cipher, with three areas of its length.
-fn scenes(code: u32, area: &mut [u32], other: &mut [u32], kept: &mut [u32]) {
-    true_words(code, area, other);
-    let head = eleven(code, area);
-    at_11(head, area, other, kept);
-    copies(head, area, other, kept);
+fn scenes(
+    rt: &impl Print,
+    code: u32,
+    area: &mut [u32],
+    other: &mut [u32],
+    kept: &mut [u32],
+) -> io::Result<()> {
+    true_words(rt, code, area, other)?;
+    let head = eleven(rt, code, area)?;
+    at_11(rt, head, area, other, kept)?;
+    copies(rt, head, area, other, kept)
 }
 
 // The word of the head through the calls of a cipher.
-pub fn of_cipher(code: u32) {
+pub fn of_cipher(rt: &impl Print, code: u32) -> io::Result<()> {
     let mut area = [0u32; 2048];
     let mut other = [0u32; 2048];
     let mut kept = [0u32; 2048];
     let n = area_words(code);
-    scenes(code, &mut area[..n], &mut other[..n], &mut kept[..n]);
+    scenes(rt, code, &mut area[..n], &mut other[..n], &mut kept[..n])
 }

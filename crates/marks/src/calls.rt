@@ -3,7 +3,7 @@
 ghost use Rattle.std.specs.Prelude.{◌≤◌};
 
 use engine::Head;
-use libc::STDOUT_FILENO;
+use std::io;
 
 // A head, and words of which the first are its area.
 #[derive(Clone, Copy)]
@@ -26,37 +26,40 @@ pub fn checkpoint_bytes(code: u32) -> usize
     256 * key_bytes(code) + 2
 }
 
-fn text(bytes: &[u8]) {
-    io::write_all(STDOUT_FILENO, bytes);
+fn text(rt: &impl Print, part: &str) -> io::Result<()> {
+    print!(rt; "{part}")
 }
 
 // A name and a number.
-fn number(name: &[u8], n: u64) {
-    text(name);
-    io::print_decimal(STDOUT_FILENO, n);
+fn number(rt: &impl Print, name: &str, n: u64) -> io::Result<()> {
+    print!(rt; "{name}{n}")
 }
 
 // The position and the mark of a head.
-fn place(head: Head) {
-    number(b" at ", head.position);
-    number(b" mark ", head.mark);
+fn place(rt: &impl Print, head: Head) -> io::Result<()> {
+    number(rt, " at ", head.position)?;
+    number(rt, " mark ", head.mark)
 }
 
 // The line of a call: the cipher, the head, what was called, the refusal number, and the head that is to be left.
-pub fn line(head: Head, call: &[u8], refusal: u64, to: Head, ok: bool) {
+pub fn line(
+    rt: &impl Print,
+    head: Head,
+    call: &str,
+    refusal: u64,
+    to: Head,
+    ok: bool,
+) -> io::Result<()> {
     if to.code == 1 {
-        text(b"HC-128");
+        text(rt, "HC-128")?;
     } else {
-        text(b"HC-256");
+        text(rt, "HC-256")?;
     }
-    place(head);
-    number(call, refusal);
-    place(to);
-    if ok {
-        text(b" ok\n");
-    } else {
-        text(b" wrong\n");
-    }
+    place(rt, head)?;
+    number(rt, call, refusal)?;
+    place(rt, to)?;
+    let word = if ok { "ok" } else { "wrong" };
+    println!(rt; " {word}")
 }
 
 // Whether spent by a head gives a refusal number and a count, and leaves position and mark.
@@ -70,14 +73,30 @@ pub fn has_spent(head: Head, refusal: u64, count: u64) -> bool {
 
 // The line of a call by a head, which got a number and left a head: it is to get this refusal number and to leave a head of this code, position and
 // mark, by which spent is the mark.
-fn gave(head: Head, call: &[u8], got: u64, next: Head, refusal: u64, to: Head) {
+fn gave(
+    rt: &impl Print,
+    head: Head,
+    call: &str,
+    got: u64,
+    next: Head,
+    refusal: u64,
+    to: Head,
+) -> io::Result<()> {
     let there = (next.code == to.code) & (next.position == to.position) & (next.mark == to.mark);
     let ok = (got == refusal) & there & has_spent(next, 0, to.mark);
-    line(head, call, refusal, to, ok);
+    line(rt, head, call, refusal, to, ok)
 }
 
 // Set up, with a key of this length.
-pub fn sets_up(code: u32, from: State, key: usize, refusal: u64, position: u64, mark: u64) -> State
+pub fn sets_up(
+    rt: &impl Print,
+    code: u32,
+    from: State,
+    key: usize,
+    refusal: u64,
+    position: u64,
+    mark: u64,
+) -> io::Result<State>
     requires { key ≤ 32 }
 {
     let head = from.head;
@@ -90,15 +109,22 @@ pub fn sets_up(code: u32, from: State, key: usize, refusal: u64, position: u64, 
     let done = head.set_up(code, &a[..key], &b[..m], &mut whole[..n]);
     let next = done.head;
     let to = Head::at(code, position, 0, mark);
-    gave(head, b" set up gets ", done.refusal, next, refusal, to);
-    State {
+    gave(rt, head, " set up gets ", done.refusal, next, refusal, to)?;
+    Ok(State {
         head: next,
         words: words,
-    }
+    })
 }
 
 // Cipher, of this number of bytes.
-pub fn ciphers(from: State, bytes: usize, refusal: u64, position: u64, mark: u64) -> State
+pub fn ciphers(
+    rt: &impl Print,
+    from: State,
+    bytes: usize,
+    refusal: u64,
+    position: u64,
+    mark: u64,
+) -> io::Result<State>
     requires { bytes ≤ 10 }
 {
     let head = from.head;
@@ -109,15 +135,22 @@ pub fn ciphers(from: State, bytes: usize, refusal: u64, position: u64, mark: u64
     let done = head.cipher(&mut whole[..n], &mut lent[..bytes]);
     let next = done.head;
     let to = Head::at(head.code, position, 0, mark);
-    gave(head, b" cipher gets ", done.refusal, next, refusal, to);
-    State {
+    gave(rt, head, " cipher gets ", done.refusal, next, refusal, to)?;
+    Ok(State {
         head: next,
         words: words,
-    }
+    })
 }
 
 // Move, by this distance.
-pub fn moves(from: State, distance: i64, refusal: u64, position: u64, mark: u64) -> State {
+pub fn moves(
+    rt: &impl Print,
+    from: State,
+    distance: i64,
+    refusal: u64,
+    position: u64,
+    mark: u64,
+) -> io::Result<State> {
     let head = from.head;
     let mut words = from.words;
     let n = 64 * key_bytes(head.code);
@@ -125,15 +158,15 @@ pub fn moves(from: State, distance: i64, refusal: u64, position: u64, mark: u64)
     let done = head.move_by(&mut whole[..n], distance);
     let next = done.head;
     let to = Head::at(head.code, position, 0, mark);
-    gave(head, b" move gets ", done.refusal, next, refusal, to);
-    State {
+    gave(rt, head, " move gets ", done.refusal, next, refusal, to)?;
+    Ok(State {
         head: next,
         words: words,
-    }
+    })
 }
 
 // Write. Gives the checkpoint, and 0 after it.
-pub fn writes(from: State, position: u64, mark: u64) -> [u8; 8194] {
+pub fn writes(rt: &impl Print, from: State, position: u64, mark: u64) -> io::Result<[u8; 8194]> {
     let head = from.head;
     let words = from.words;
     let mut lent = [0u8; 8194];
@@ -144,12 +177,12 @@ pub fn writes(from: State, position: u64, mark: u64) -> [u8; 8194] {
     let answer = done.answer;
     let next = done.head;
     let to = Head::at(head.code, position, 0, mark);
-    gave(head, b" write gets ", answer.refusal, next, 0, to);
-    lent
+    gave(rt, head, " write gets ", answer.refusal, next, 0, to)?;
+    Ok(lent)
 }
 
 // Recover.
-pub fn recovers(from: State, position: u64, mark: u64) {
+pub fn recovers(rt: &impl Print, from: State, position: u64, mark: u64) -> io::Result<()> {
     let head = from.head;
     let words = from.words;
     let mut key = [0u8; 32];
@@ -160,11 +193,12 @@ pub fn recovers(from: State, position: u64, mark: u64) {
     let done = head.recover(&whole[..n], &mut key[..m], &mut iv[..m]);
     let next = done.head;
     let to = Head::at(head.code, position, 0, mark);
-    gave(head, b" recover gets ", done.refusal, next, 0, to);
+    gave(rt, head, " recover gets ", done.refusal, next, 0, to)
 }
 
 // Load, of this number of bytes of a string.
 pub fn loads(
+    rt: &impl Print,
     code: u32,
     from: State,
     string: [u8; 8194],
@@ -172,7 +206,7 @@ pub fn loads(
     refusal: u64,
     position: u64,
     mark: u64,
-)
+) -> io::Result<()>
     requires { bytes ≤ 8194 }
 {
     let head = from.head;
@@ -183,5 +217,5 @@ pub fn loads(
     let answer = done.answer;
     let next = done.head;
     let to = Head::at(code, position, 0, mark);
-    gave(head, b" load gets ", answer.refusal, next, refusal, to);
+    gave(rt, head, " load gets ", answer.refusal, next, refusal, to)
 }

@@ -1,7 +1,7 @@
 // A pair of recordings and what is to be handed back of it, or the number with which it is refused.
 use check::same;
 use comparison::Part;
-use libc::STDOUT_FILENO;
+use std::io;
 
 // Which recording a part is of.
 const BLENDER: u64 = 0;
@@ -50,91 +50,130 @@ fn part_is(blender: &[u8], gauge: &[u8], recording: u64, from: usize, length: us
 }
 
 // The end of a line.
-fn end(ok: bool) {
-    if ok {
-        io::write_all(STDOUT_FILENO, b" ok\n");
-    } else {
-        io::write_all(STDOUT_FILENO, b" wrong\n");
-    }
+fn end(rt: &impl Print, ok: bool) -> io::Result<()> {
+    let word = if ok { "ok" } else { "wrong" };
+    println!(rt; " {word}")
 }
 
 // An accepted pair, with the part handed back.
 fn hands_back<'a>(
-    case: &[u8],
+    rt: &impl Print,
+    case: &str,
     blender: &'a [u8],
     gauge: &'a [u8],
     recording: u64,
     from: usize,
     length: usize,
-) {
-    io::write_all(STDOUT_FILENO, case);
-    if recording == GAUGE {
-        io::write_all(STDOUT_FILENO, b": the gauge's from ");
+) -> io::Result<()> {
+    let whose = if recording == GAUGE {
+        "gauge's"
     } else {
-        io::write_all(STDOUT_FILENO, b": the blender's from ");
-    }
-    io::print_decimal(STDOUT_FILENO, from as u64);
-    io::write_all(STDOUT_FILENO, b", bytes ");
-    io::print_decimal(STDOUT_FILENO, length as u64);
+        "blender's"
+    };
+    print!(rt; "{case}: the {whose} from {from}, bytes {length}")?;
     let accepted = comparison::check_recordings(blender, gauge) == 0;
     let found = part_is(blender, gauge, recording, from, length);
-    end(accepted & found & slice_is(blender, gauge, recording, from, length));
+    end(
+        rt,
+        accepted & found & slice_is(blender, gauge, recording, from, length),
+    )
 }
 
 // An accepted pair of which the blender's is handed back, so many bytes from byte `from` on.
-pub fn blenders<'a>(case: &[u8], blender: &'a [u8], gauge: &'a [u8], from: usize, length: usize) {
-    hands_back(case, blender, gauge, BLENDER, from, length);
+pub fn blenders<'a>(
+    rt: &impl Print,
+    case: &str,
+    blender: &'a [u8],
+    gauge: &'a [u8],
+    from: usize,
+    length: usize,
+) -> io::Result<()> {
+    hands_back(rt, case, blender, gauge, BLENDER, from, length)
 }
 
 // An accepted pair of which the gauge's is handed back, so many bytes from byte `from` on.
-pub fn gauges<'a>(case: &[u8], blender: &'a [u8], gauge: &'a [u8], from: usize, length: usize) {
-    hands_back(case, blender, gauge, GAUGE, from, length);
+pub fn gauges<'a>(
+    rt: &impl Print,
+    case: &str,
+    blender: &'a [u8],
+    gauge: &'a [u8],
+    from: usize,
+    length: usize,
+) -> io::Result<()> {
+    hands_back(rt, case, blender, gauge, GAUGE, from, length)
 }
 
 // Two recordings that are the first n and the first m bytes of these, and differ in their first entries, after a count of one byte.
 fn hands_back_first<'a>(
-    case: &[u8],
+    rt: &impl Print,
+    case: &str,
     blender: &'a [u8],
     n: usize,
     gauge: &'a [u8],
     m: usize,
     recording: u64,
     length: usize,
-) {
+) -> io::Result<()> {
     if blender.len() < n {
-        return;
+        return Ok(());
     }
     if gauge.len() < m {
-        return;
+        return Ok(());
     }
-    hands_back(case, &blender[0..n], &gauge[0..m], recording, 1, length);
+    hands_back(rt, case, &blender[0..n], &gauge[0..m], recording, 1, length)
 }
 
 // Two recordings of one entry each, of which the one that is handed back has so many bytes.
-fn hands_back_entry(case: &[u8], b: [u32; 4], g: [u32; 4], recording: u64, length: usize) {
+fn hands_back_entry(
+    rt: &impl Print,
+    case: &str,
+    b: [u32; 4],
+    g: [u32; 4],
+    recording: u64,
+    length: usize,
+) -> io::Result<()> {
     let mut blender = [0u8; 9];
     let mut gauge = [0u8; 9];
     let n = volume::write_volume(&b, &mut blender).length;
     let m = volume::write_volume(&g, &mut gauge).length;
-    hands_back_first(case, &blender, n, &gauge, m, recording, length);
+    hands_back_first(rt, case, &blender, n, &gauge, m, recording, length)
 }
 
 // The blender's is the one handed back.
-pub fn blenders_entry(case: &[u8], b: [u32; 4], g: [u32; 4], length: usize) {
-    hands_back_entry(case, b, g, BLENDER, length);
+pub fn blenders_entry(
+    rt: &impl Print,
+    case: &str,
+    b: [u32; 4],
+    g: [u32; 4],
+    length: usize,
+) -> io::Result<()> {
+    hands_back_entry(rt, case, b, g, BLENDER, length)
 }
 
 // The gauge's is the one handed back.
-pub fn gauges_entry(case: &[u8], b: [u32; 4], g: [u32; 4], length: usize) {
-    hands_back_entry(case, b, g, GAUGE, length);
+pub fn gauges_entry(
+    rt: &impl Print,
+    case: &str,
+    b: [u32; 4],
+    g: [u32; 4],
+    length: usize,
+) -> io::Result<()> {
+    hands_back_entry(rt, case, b, g, GAUGE, length)
 }
 
 // A refused pair, of which the empty beginning of the blender's buffer is handed back.
-pub fn refuses<'a>(case: &[u8], blender: &'a [u8], gauge: &'a [u8], number: u64) {
-    io::write_all(STDOUT_FILENO, case);
-    io::write_all(STDOUT_FILENO, b": refused ");
-    io::print_decimal(STDOUT_FILENO, number);
+pub fn refuses<'a>(
+    rt: &impl Print,
+    case: &str,
+    blender: &'a [u8],
+    gauge: &'a [u8],
+    number: u64,
+) -> io::Result<()> {
+    print!(rt; "{case}: refused {number}")?;
     let refused = comparison::check_recordings(blender, gauge) == number;
     let found = part_is(blender, gauge, BLENDER, 0, 0);
-    end(refused & found & slice_is(blender, gauge, BLENDER, 0, 0));
+    end(
+        rt,
+        refused & found & slice_is(blender, gauge, BLENDER, 0, 0),
+    )
 }

@@ -1,27 +1,24 @@
 // The parts of a line.
-use libc::STDOUT_FILENO;
 
-pub fn text(bytes: &[u8]) {
-    io::write_all(STDOUT_FILENO, bytes);
+use std::io;
+
+pub fn text(rt: &impl Print, part: &str) -> io::Result<()> {
+    print!(rt; "{part}")
 }
 
 // A name and a number.
-pub fn number(name: &[u8], n: u64) {
-    text(name);
-    io::print_decimal(STDOUT_FILENO, n);
+pub fn number(rt: &impl Print, name: &str, n: u64) -> io::Result<()> {
+    print!(rt; "{name}{n}")
 }
 
 // A seed and a count.
-pub fn load(seed: u32, count: u64) {
-    number(b"seed ", seed as u64);
-    number(b" count ", count);
+pub fn load(rt: &impl Print, seed: u32, count: u64) -> io::Result<()> {
+    number(rt, "seed ", seed as u64)?;
+    number(rt, " count ", count)
 }
 
 // The end of a line.
-pub fn end(ok: bool) {
-    if ok {
-        text(b" ok\n");
-    } else {
-        text(b" wrong\n");
-    }
+pub fn end(rt: &impl Print, ok: bool) -> io::Result<()> {
+    let word = if ok { "ok" } else { "wrong" };
+    println!(rt; " {word}")
 }

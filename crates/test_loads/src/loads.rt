@@ -4,6 +4,7 @@ ghost use Rattle.std.specs.Prelude.{◌≤◌};
 
 use crate::lines;
 use engine::Head;
+use std::io;
 
 // The bytes of a cipher's key, and of its IV. Its area has 64 words for each.
 fn key_bytes(code: u32) -> usize
@@ -80,17 +81,24 @@ fn write_same(
     ended & check::same(&first, &second)
 }
 
-pub fn accepts(code: u32, seed: u32, count: u64, position: u64, mark: u64) {
+pub fn accepts(
+    rt: &impl Print,
+    code: u32,
+    seed: u32,
+    count: u64,
+    position: u64,
+    mark: u64,
+) -> io::Result<()> {
     let key = [5u8; 32];
     let mut words = [7u32; 2048];
     let ok = write_same(code, seed, count, position, mark, &key, &mut words);
     if code == 1 {
-        lines::text(b"HC-128 ");
+        lines::text(rt, "HC-128 ")?;
     } else {
-        lines::text(b"HC-256 ");
+        lines::text(rt, "HC-256 ")?;
     }
-    lines::load(seed, count);
-    lines::number(b" ends at ", position);
-    lines::number(b" mark ", mark);
-    lines::end(ok);
+    lines::load(rt, seed, count)?;
+    lines::number(rt, " ends at ", position)?;
+    lines::number(rt, " mark ", mark)?;
+    lines::end(rt, ok)
 }

@@ -1,6 +1,7 @@
 // Loads that are refused: each is to get its number, and to leave head and area as they were.
 use crate::lines;
 use engine::Head;
+use std::io;
 
 // Whether each word is the one that the area was filled with.
 fn kept(words: &[u32]) -> bool {
@@ -66,16 +67,25 @@ fn leaves_all(
 }
 
 // A load with a key of m bytes, an IV of l bytes and an area of n words.
-pub fn refuses(seed: u32, count: u64, code: u32, m: usize, l: usize, n: usize, refusal: u64) {
+pub fn refuses(
+    rt: &impl Print,
+    seed: u32,
+    count: u64,
+    code: u32,
+    m: usize,
+    l: usize,
+    n: usize,
+    refusal: u64,
+) -> io::Result<()> {
     let key = [5u8; 33];
     let iv = [6u8; 33];
     let mut words = [7u32; 2049];
     let ok = leaves_all(seed, count, code, &key, m, &iv, l, &mut words, n, refusal);
-    lines::load(seed, count);
-    lines::number(b" code ", code as u64);
-    lines::number(b" key ", m as u64);
-    lines::number(b" IV ", l as u64);
-    lines::number(b" area ", n as u64);
-    lines::number(b": refused ", refusal);
-    lines::end(ok);
+    lines::load(rt, seed, count)?;
+    lines::number(rt, " code ", code as u64)?;
+    lines::number(rt, " key ", m as u64)?;
+    lines::number(rt, " IV ", l as u64)?;
+    lines::number(rt, " area ", n as u64)?;
+    lines::number(rt, ": refused ", refusal)?;
+    lines::end(rt, ok)
 }

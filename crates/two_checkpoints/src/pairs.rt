@@ -1,6 +1,7 @@
 // Pairs of checkpoints of one cipher: of one run at two positions, and of runs whose key or IV is another.
 use crate::lines::{cipher, gets_no, gets_yes, number, text};
 use crate::strings::{Stored, checkpoint, other};
+use std::io;
 
 // The key and the IV of the box; the second halves are HC-256's alone.
 const KEY: [u8; 32] = [
@@ -19,39 +20,63 @@ pub fn at(code: u32, position: u32) -> Stored {
 }
 
 // Which cipher and which positions a pair has.
-fn places(code: u32, p: u32, q: u32) {
-    cipher(code);
-    number(b" at ", p as u64);
-    number(b" and ", q as u64);
+fn places(rt: &impl Print, code: u32, p: u32, q: u32) -> io::Result<()> {
+    cipher(rt, code)?;
+    number(rt, " at ", p as u64)?;
+    number(rt, " and ", q as u64)
 }
 
 // Two checkpoints of one run, in both orders.
-pub fn one_run(code: u32, p: u32, q: u32) {
+pub fn one_run(rt: &impl Print, code: u32, p: u32, q: u32) -> io::Result<()> {
     let a = at(code, p);
     let b = at(code, q);
-    places(code, p, q);
-    gets_yes(a, b);
-    places(code, q, p);
-    gets_yes(b, a);
+    places(rt, code, p, q)?;
+    gets_yes(rt, a, b)?;
+    places(rt, code, q, p)?;
+    gets_yes(rt, b, a)
 }
 
 // The box's checkpoint and that of another run, in both orders.
-fn two_runs(code: u32, p: u32, q: u32, case: &[u8], key: [u8; 32], iv: [u8; 32]) {
+fn two_runs(
+    rt: &impl Print,
+    code: u32,
+    p: u32,
+    q: u32,
+    case: &str,
+    key: [u8; 32],
+    iv: [u8; 32],
+) -> io::Result<()> {
     let a = at(code, p);
     let b = checkpoint(code, key, iv, q as i64);
-    places(code, p, q);
-    text(case);
-    gets_no(a, b);
-    places(code, q, p);
-    text(case);
-    gets_no(b, a);
+    places(rt, code, p, q)?;
+    text(rt, case)?;
+    gets_no(rt, a, b)?;
+    places(rt, code, q, p)?;
+    text(rt, case)?;
+    gets_no(rt, b, a)
 }
 
 // Key and IV that differ in one bit of their first or last byte, or are exchanged; `last` is the place of the last byte.
-pub fn other_runs(code: u32, p: u32, q: u32, last: usize) {
-    two_runs(code, p, q, b", first byte of the key", other(KEY, 0), IV);
-    two_runs(code, p, q, b", last byte of the key", other(KEY, last), IV);
-    two_runs(code, p, q, b", first byte of the IV", KEY, other(IV, 0));
-    two_runs(code, p, q, b", last byte of the IV", KEY, other(IV, last));
-    two_runs(code, p, q, b", key and IV exchanged", IV, KEY);
+pub fn other_runs(rt: &impl Print, code: u32, p: u32, q: u32, last: usize) -> io::Result<()> {
+    two_runs(rt, code, p, q, ", first byte of the key", other(KEY, 0), IV)?;
+    two_runs(
+        rt,
+        code,
+        p,
+        q,
+        ", last byte of the key",
+        other(KEY, last),
+        IV,
+    )?;
+    two_runs(rt, code, p, q, ", first byte of the IV", KEY, other(IV, 0))?;
+    two_runs(
+        rt,
+        code,
+        p,
+        q,
+        ", last byte of the IV",
+        KEY,
+        other(IV, last),
+    )?;
+    two_runs(rt, code, p, q, ", key and IV exchanged", IV, KEY)
 }

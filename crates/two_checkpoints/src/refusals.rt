@@ -2,6 +2,7 @@
 use crate::lines::{cipher, gets, number, text};
 use crate::pairs::at;
 use crate::strings::{Stored, beginning, changed, changed_last, cut, length, longer};
+use std::io;
 
 // The other cipher's code.
 fn other_code(code: u32) -> u32 {
@@ -9,25 +10,25 @@ fn other_code(code: u32) -> u32 {
 }
 
 // A string that load refuses with a number: as the first beside a checkpoint of either cipher, and as the second.
-fn alone(code: u32, case: &[u8], string: Stored, refusal: u64) {
+fn alone(rt: &impl Print, code: u32, case: &str, string: Stored, refusal: u64) -> io::Result<()> {
     let own = at(code, 5);
     let spare = at(other_code(code), 5);
-    cipher(code);
-    text(case);
-    text(b", a checkpoint");
-    gets(string, own, refusal);
-    cipher(code);
-    text(case);
-    text(b", one of the other cipher");
-    gets(string, spare, refusal);
-    cipher(code);
-    text(b" a checkpoint,");
-    text(case);
-    gets(own, string, refusal);
-    cipher(code);
-    text(b" one of the other cipher,");
-    text(case);
-    gets(spare, string, refusal);
+    cipher(rt, code)?;
+    text(rt, case)?;
+    text(rt, ", a checkpoint")?;
+    gets(rt, string, own, refusal)?;
+    cipher(rt, code)?;
+    text(rt, case)?;
+    text(rt, ", one of the other cipher")?;
+    gets(rt, string, spare, refusal)?;
+    cipher(rt, code)?;
+    text(rt, " a checkpoint,")?;
+    text(rt, case)?;
+    gets(rt, own, string, refusal)?;
+    cipher(rt, code)?;
+    text(rt, " one of the other cipher,")?;
+    text(rt, case)?;
+    gets(rt, spare, string, refusal)
 }
 
 // The code byte of a cipher.
@@ -36,115 +37,136 @@ fn byte(code: u32) -> u8 {
 }
 
 // Strings without a cipher.
-pub fn first_byte(code: u32) {
-    alone(code, b" no bytes", beginning(0, [0, 0, 0, 0], 0), 9);
+pub fn first_byte(rt: &impl Print, code: u32) -> io::Result<()> {
+    alone(rt, code, " no bytes", beginning(0, [0, 0, 0, 0], 0), 9)?;
     alone(
+        rt,
         code,
-        b" code 0",
+        " code 0",
         beginning(0, [5, 0, 0, 0], length(code, 1)),
         1,
-    );
+    )?;
     alone(
+        rt,
         code,
-        b" code 3",
+        " code 3",
         beginning(3, [5, 0, 0, 0], length(code, 1)),
         1,
-    );
-    alone(code, b" code 129", beginning(129, [5, 0, 0, 0], 1), 1);
-    alone(code, b" code 255", beginning(255, [5, 0, 0, 0], 1), 1);
+    )?;
+    alone(rt, code, " code 129", beginning(129, [5, 0, 0, 0], 1), 1)?;
+    alone(rt, code, " code 255", beginning(255, [5, 0, 0, 0], 1), 1)
 }
 
 // Positions that are cut, too long, not in shortest form or over the limit.
-pub fn position(code: u32) {
+pub fn position(rt: &impl Print, code: u32) -> io::Result<()> {
     let c = byte(code);
-    alone(code, b" the code alone", beginning(c, [0, 0, 0, 0], 1), 9);
     alone(
+        rt,
         code,
-        b" a position cut after one group",
+        " the code alone",
+        beginning(c, [0, 0, 0, 0], 1),
+        9,
+    )?;
+    alone(
+        rt,
+        code,
+        " a position cut after one group",
         beginning(c, [128, 0, 0, 0], 2),
         9,
-    );
+    )?;
     alone(
+        rt,
         code,
-        b" a position cut after three groups",
+        " a position cut after three groups",
         beginning(c, [128, 128, 128, 0], 4),
         9,
-    );
+    )?;
     alone(
+        rt,
         code,
-        b" a fourth group that announces another, at the end",
+        " a fourth group that announces another, at the end",
         beginning(c, [128, 128, 128, 128], 5),
         10,
-    );
+    )?;
     alone(
+        rt,
         code,
-        b" a fourth group that announces another",
+        " a fourth group that announces another",
         beginning(c, [128, 128, 128, 128], length(code, 1)),
         10,
-    );
+    )?;
     alone(
+        rt,
         code,
-        b" a last group 0",
+        " a last group 0",
         beginning(c, [128, 0, 0, 0], length(code, 2)),
         10,
-    );
+    )?;
     alone(
+        rt,
         code,
-        b" a last group 0, at the end",
+        " a last group 0, at the end",
         beginning(c, [128, 0, 0, 0], 3),
         10,
-    );
+    )?;
     alone(
+        rt,
         code,
-        b" position 67108865",
+        " position 67108865",
         beginning(c, [129, 128, 128, 32], length(code, 4)),
         5,
-    );
+    )?;
     alone(
+        rt,
         code,
-        b" position 67108865 and no words",
+        " position 67108865 and no words",
         beginning(c, [129, 128, 128, 32], 5),
         5,
-    );
+    )
 }
 
 // Words that are too few, too many, or of no key and IV; also a true checkpoint that states another position.
-pub fn words(code: u32) {
+pub fn words(rt: &impl Print, code: u32) -> io::Result<()> {
     let c = byte(code);
     let string = at(code, 5);
-    alone(code, b" no words", beginning(c, [5, 0, 0, 0], 2), 11);
-    alone(code, b" a byte too few", cut(string), 11);
-    alone(code, b" a byte too many", longer(string), 11);
+    alone(rt, code, " no words", beginning(c, [5, 0, 0, 0], 2), 11)?;
+    alone(rt, code, " a byte too few", cut(string), 11)?;
+    alone(rt, code, " a byte too many", longer(string), 11)?;
     alone(
+        rt,
         code,
-        b" words that are all 0",
+        " words that are all 0",
         beginning(c, [0, 0, 0, 0], length(code, 1)),
         12,
-    );
+    )?;
     alone(
+        rt,
         code,
-        b" words that are all 0 at the limit",
+        " words that are all 0 at the limit",
         beginning(c, [128, 128, 128, 32], length(code, 4)),
         12,
-    );
+    )?;
     alone(
+        rt,
         code,
-        b" a bit of the first word changed",
+        " a bit of the first word changed",
         changed(string, 2),
         12,
-    );
+    )?;
     alone(
+        rt,
         code,
-        b" a bit of the last word changed",
+        " a bit of the last word changed",
         changed_last(string),
         12,
-    );
+    )?;
     alone(
+        rt,
         code,
-        b" position 4 stated with the tables of 5",
+        " position 4 stated with the tables of 5",
         changed(string, 1),
         12,
-    );
+    )
 }
 
 // A string that load refuses with this number.
@@ -161,65 +183,71 @@ fn refused_with(code: u32, refusal: u64) -> Stored {
 }
 
 // Both strings are refused: the first one's number is the answer.
-fn both(code: u32, first: u64, second: u64) {
-    cipher(code);
-    number(b" refused with ", first);
-    number(b" and ", second);
-    gets(refused_with(code, first), refused_with(code, second), first);
+fn both(rt: &impl Print, code: u32, first: u64, second: u64) -> io::Result<()> {
+    cipher(rt, code)?;
+    number(rt, " refused with ", first)?;
+    number(rt, " and ", second)?;
+    gets(
+        rt,
+        refused_with(code, first),
+        refused_with(code, second),
+        first,
+    )
 }
 
 // Both strings are refused, the second one of the other cipher: the first one's number is the answer.
-fn both_ciphers(code: u32, first: u64, second: u64) {
-    cipher(code);
-    number(b" refused with ", first);
-    number(b" and, of the other cipher, ", second);
+fn both_ciphers(rt: &impl Print, code: u32, first: u64, second: u64) -> io::Result<()> {
+    cipher(rt, code)?;
+    number(rt, " refused with ", first)?;
+    number(rt, " and, of the other cipher, ", second)?;
     gets(
+        rt,
         refused_with(code, first),
         refused_with(other_code(code), second),
         first,
-    );
+    )
 }
 
 // Every two different refusals of load, in both orders.
-pub fn two_refused(code: u32) {
-    both(code, 9, 1);
-    both(code, 9, 10);
-    both(code, 9, 5);
-    both(code, 9, 11);
-    both(code, 9, 12);
-    both(code, 1, 9);
-    both(code, 1, 10);
-    both(code, 1, 5);
-    both(code, 1, 11);
-    both(code, 1, 12);
-    both(code, 10, 9);
-    both(code, 10, 1);
-    both(code, 10, 5);
-    both(code, 10, 11);
-    both(code, 10, 12);
-    both(code, 5, 9);
-    both(code, 5, 1);
-    both(code, 5, 10);
-    both(code, 5, 11);
-    both(code, 5, 12);
-    both(code, 11, 9);
-    both(code, 11, 1);
-    both(code, 11, 10);
-    both(code, 11, 5);
-    both(code, 11, 12);
-    both(code, 12, 9);
-    both(code, 12, 1);
-    both(code, 12, 10);
-    both(code, 12, 5);
-    both(code, 12, 11);
-    both_ciphers(code, 12, 12);
-    both_ciphers(code, 12, 11);
+pub fn two_refused(rt: &impl Print, code: u32) -> io::Result<()> {
+    both(rt, code, 9, 1)?;
+    both(rt, code, 9, 10)?;
+    both(rt, code, 9, 5)?;
+    both(rt, code, 9, 11)?;
+    both(rt, code, 9, 12)?;
+    both(rt, code, 1, 9)?;
+    both(rt, code, 1, 10)?;
+    both(rt, code, 1, 5)?;
+    both(rt, code, 1, 11)?;
+    both(rt, code, 1, 12)?;
+    both(rt, code, 10, 9)?;
+    both(rt, code, 10, 1)?;
+    both(rt, code, 10, 5)?;
+    both(rt, code, 10, 11)?;
+    both(rt, code, 10, 12)?;
+    both(rt, code, 5, 9)?;
+    both(rt, code, 5, 1)?;
+    both(rt, code, 5, 10)?;
+    both(rt, code, 5, 11)?;
+    both(rt, code, 5, 12)?;
+    both(rt, code, 11, 9)?;
+    both(rt, code, 11, 1)?;
+    both(rt, code, 11, 10)?;
+    both(rt, code, 11, 5)?;
+    both(rt, code, 11, 12)?;
+    both(rt, code, 12, 9)?;
+    both(rt, code, 12, 1)?;
+    both(rt, code, 12, 10)?;
+    both(rt, code, 12, 5)?;
+    both(rt, code, 12, 11)?;
+    both_ciphers(rt, code, 12, 12)?;
+    both_ciphers(rt, code, 12, 11)
 }
 
 // Checkpoints of different ciphers, this one's first.
-pub fn two_ciphers(code: u32, p: u32, q: u32) {
-    cipher(code);
-    number(b" at ", p as u64);
-    number(b", the other cipher at ", q as u64);
-    gets(at(code, p), at(other_code(code), q), 23);
+pub fn two_ciphers(rt: &impl Print, code: u32, p: u32, q: u32) -> io::Result<()> {
+    cipher(rt, code)?;
+    number(rt, " at ", p as u64)?;
+    number(rt, ", the other cipher at ", q as u64)?;
+    gets(rt, at(code, p), at(other_code(code), q), 23)
 }

@@ -4,7 +4,7 @@
 ghost use Rattle.std.specs.Prelude.{◌≤◌, length};
 
 use engine::Head;
-use libc::STDOUT_FILENO;
+use std::io;
 
 // Key and IV 0.
 const HC128_1: [u32; 16] = [
@@ -118,7 +118,15 @@ fn holds(
 }
 
 // Runs one vector and prints its line.
-fn run(name: &[u8], sizes: Sizes, key_byte: u8, iv_byte: u8, blocks: usize, expected: &[u32; 16])
+fn run(
+    rt: &impl Print,
+    name: &str,
+    sizes: Sizes,
+    key_byte: u8,
+    iv_byte: u8,
+    blocks: usize,
+    expected: &[u32; 16],
+) -> io::Result<()>
     requires { (sizes.key ≤ 32) × (sizes.area ≤ 2048) }
 {
     let mut key = [0u8; 32];
@@ -127,12 +135,8 @@ fn run(name: &[u8], sizes: Sizes, key_byte: u8, iv_byte: u8, blocks: usize, expe
     key[0] = key_byte;
     iv[0] = iv_byte;
     let ok = holds(sizes, &key, &iv, &mut area, blocks, expected);
-    io::write_all(STDOUT_FILENO, name);
-    if ok {
-        io::write_all(STDOUT_FILENO, b" ok\n");
-    } else {
-        io::write_all(STDOUT_FILENO, b" wrong\n");
-    }
+    let word = if ok { "ok" } else { "wrong" };
+    println!(rt; "{name} {word}")
 }
 
 const HC128: Sizes = Sizes {
@@ -147,12 +151,12 @@ const HC256: Sizes = Sizes {
     area: 2048,
 };
 
-fn main() {
-    run(b"HC-128 1", HC128, 0, 0, 1, &HC128_1);
-    run(b"HC-128 2", HC128, 0, 1, 1, &HC128_2);
-    run(b"HC-128 3", HC128, 0x55, 0, 1, &HC128_3);
-    run(b"HC-128 A", HC128, 0, 0, 1048576, &HC128_A);
-    run(b"HC-256 1", HC256, 0, 0, 1, &HC256_1);
-    run(b"HC-256 2", HC256, 0, 1, 1, &HC256_2);
-    run(b"HC-256 3", HC256, 0x55, 0, 1, &HC256_3);
+fn main(rt: HostRuntime) -> io::Result<()> {
+    run(&rt, "HC-128 1", HC128, 0, 0, 1, &HC128_1)?;
+    run(&rt, "HC-128 2", HC128, 0, 1, 1, &HC128_2)?;
+    run(&rt, "HC-128 3", HC128, 0x55, 0, 1, &HC128_3)?;
+    run(&rt, "HC-128 A", HC128, 0, 0, 1048576, &HC128_A)?;
+    run(&rt, "HC-256 1", HC256, 0, 0, 1, &HC256_1)?;
+    run(&rt, "HC-256 2", HC256, 0, 1, 1, &HC256_2)?;
+    run(&rt, "HC-256 3", HC256, 0x55, 0, 1, &HC256_3)
 }

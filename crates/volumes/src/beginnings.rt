@@ -1,7 +1,7 @@
 // Whether a string is sound, cut or hopeless, and the same of each of its beginnings.
 use crate::table::{CUT, HOPELESS, SOUND};
-use libc::STDOUT_FILENO;
 use soundness::Soundness;
+use std::io;
 
 // Whether this is the answer for a string, and the length where it is hopeless.
 fn answer_is(string: &[u8], answer: u32, length: usize) -> bool {
@@ -38,22 +38,18 @@ fn beginnings_are(string: &[u8], answer: u32, length: usize) -> bool {
 }
 
 // The line of a case.
-fn line(case: &[u8], answer: u32, length: usize, ok: bool) {
-    io::write_all(STDOUT_FILENO, b"soundness ");
-    io::write_all(STDOUT_FILENO, case);
+fn line(rt: &impl Print, case: &[u8], answer: u32, length: usize, ok: bool) -> io::Result<()> {
+    print!(rt; "soundness ")?;
+    rt.write_all(case)?;
     if answer == SOUND {
-        io::write_all(STDOUT_FILENO, b" sound");
+        print!(rt; " sound")?;
     } else if answer == CUT {
-        io::write_all(STDOUT_FILENO, b" cut");
+        print!(rt; " cut")?;
     } else {
-        io::write_all(STDOUT_FILENO, b" hopeless at ");
-        io::print_decimal(STDOUT_FILENO, length as u64);
+        print!(rt; " hopeless at {length}")?;
     }
-    if ok {
-        io::write_all(STDOUT_FILENO, b" ok\n");
-    } else {
-        io::write_all(STDOUT_FILENO, b" wrong\n");
-    }
+    let word = if ok { "ok" } else { "wrong" };
+    println!(rt; " {word}")
 }
 
 // The first of these numbers, or 0 where there is none.
@@ -65,7 +61,19 @@ fn first(numbers: &[u32]) -> u32 {
 }
 
 // Takes the soundness of a string and of its beginnings. The number is the hopeless length.
-pub fn judges(case: &[u8], string: &[u8], answer: u32, numbers: &[u32]) {
+pub fn judges(
+    rt: &impl Print,
+    case: &[u8],
+    string: &[u8],
+    answer: u32,
+    numbers: &[u32],
+) -> io::Result<()> {
     let length = first(numbers) as usize;
-    line(case, answer, length, beginnings_are(string, answer, length));
+    line(
+        rt,
+        case,
+        answer,
+        length,
+        beginnings_are(string, answer, length),
+    )
 }

@@ -8,6 +8,7 @@ use crate::table::{read_is, wide};
 use cipher::Known;
 use engine::Head;
 use engine::answers::Done;
+use std::io;
 
 // The cipher, and the head, the area and the refusal number of a line.
 #[derive(Clone, Copy)]
@@ -187,16 +188,21 @@ fn is_right_with(row: Row, volume: &[u8], ends: &[u32], words: usize) -> bool
 }
 
 // Runs a line for a cipher.
-pub fn enciphers(code: u32, case: &[u8], volume: &[u8], numbers: &[u32]) {
+pub fn enciphers(
+    rt: &impl Print,
+    code: u32,
+    case: &[u8],
+    volume: &[u8],
+    numbers: &[u32],
+) -> io::Result<()> {
     if numbers.len() < 6 {
-        line(b"too few numbers in ", case, 0, false);
-        return;
+        return line(rt, "too few numbers in ", case, 0, false);
     }
     let row = row_of(code, numbers);
     let ok = is_right_with(row, volume, &numbers[6..], area_words(code, numbers[4]));
     if code == 1 {
-        line(b"HC-128 encipher ", case, row.refusal, ok);
+        line(rt, "HC-128 encipher ", case, row.refusal, ok)
     } else {
-        line(b"HC-256 encipher ", case, row.refusal, ok);
+        line(rt, "HC-256 encipher ", case, row.refusal, ok)
     }
 }

@@ -1,5 +1,6 @@
 // What is lent to a call, before it and after it, and the line of a case.
-use libc::STDOUT_FILENO;
+
+use std::io;
 
 // What a list holds before a call, over and over. No number of these is in a range.
 pub const NUMBERS: [u32; 4] = [0xb0000007, 0xc1000b03, 0xd200020d, 0xe3000f0b];
@@ -8,16 +9,11 @@ pub const NUMBERS: [u32; 4] = [0xb0000007, 0xc1000b03, 0xd200020d, 0xe3000f0b];
 pub const BYTES: [u8; 8] = [0xa5; 8];
 
 // The line of a case: what is called, the case, the refusal number that it is to get, 0 where it is accepted, and whether it is so.
-pub fn line(call: &[u8], case: &[u8], refusal: u64, ok: bool) {
-    io::write_all(STDOUT_FILENO, call);
-    io::write_all(STDOUT_FILENO, case);
-    io::write_all(STDOUT_FILENO, b" gets ");
-    io::print_decimal(STDOUT_FILENO, refusal);
-    if ok {
-        io::write_all(STDOUT_FILENO, b" ok\n");
-    } else {
-        io::write_all(STDOUT_FILENO, b" wrong\n");
-    }
+pub fn line(rt: &impl Print, call: &str, case: &[u8], refusal: u64, ok: bool) -> io::Result<()> {
+    print!(rt; "{call}")?;
+    rt.write_all(case)?;
+    let word = if ok { "ok" } else { "wrong" };
+    println!(rt; " gets {refusal} {word}")
 }
 
 // The number at a place, where these numbers stand first and then these four, over and over.

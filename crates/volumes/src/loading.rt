@@ -2,6 +2,7 @@
 use crate::lent::line;
 use crate::table::wide;
 use rates::Rates;
+use std::io;
 
 // Whether `rate`, which the table has for this product, is this number, and whether 1 litre at 10,000 of the product owes as many cents.
 fn rate_is(table: [u16; 8], product: u8, rate: u16, number: u32) -> bool {
@@ -41,10 +42,9 @@ fn another() -> Rates {
 }
 
 // Loads a string. The numbers are the refusal number and, where it is 0, the eight rates. Where it is refused, the table in use stays.
-pub fn loads(case: &[u8], string: &[u8], numbers: &[u32]) {
+pub fn loads(rt: &impl Print, case: &[u8], string: &[u8], numbers: &[u32]) -> io::Result<()> {
     if numbers.len() < 1 {
-        line(b"no numbers in ", case, 0, false);
-        return;
+        return line(rt, "no numbers in ", case, 0, false);
     }
     let refusal = wide(numbers[0]);
     let rates = &numbers[1..];
@@ -63,5 +63,5 @@ pub fn loads(case: &[u8], string: &[u8], numbers: &[u32]) {
             &[1001, 1002, 1003, 1004, 1005, 1006, 1007, 65_535],
         )
     };
-    line(b"rates ", case, refusal, ok);
+    line(rt, "rates ", case, refusal, ok)
 }

@@ -2,6 +2,7 @@
 // (j), where a volume became hopeless: reading, writing, enciphering, the duty, the loading of rates and the soundness, a line each, `ok` or `wrong`.
 #![tactic(auto)]
 
+use std::io;
 use table::{CUT, DUTY, HOPELESS, LOAD, READ, SOUND, WRITE};
 
 mod beginnings;
@@ -16,8 +17,9 @@ mod table;
 // minutes, and 20,000 litres at 610 of product 2 after 15 minutes.
 
 // Each number at both ends of its range, and beyond them; and on both sides of where its groups grow in number.
-fn read_ranges() {
+fn read_ranges(rt: &impl Print) -> io::Result<()> {
     table::each(
+        rt,
         READ,
         b"\
 count 0: 00: 9 gets 0
@@ -49,12 +51,13 @@ product 8: 01 00 00 00 08: 9 gets 0, 0 0 0 8
 product 9: 01 00 00 00 09: 9 gets 15
 product 2097151: 01 00 00 00 ff ff 7f: 9 gets 15
 ",
-    );
+    )
 }
 
 // Numbers with a group more than their value needs, also where the value is out of its range as well; and third groups that announce another.
-fn read_groups() {
+fn read_groups(rt: &impl Print) -> io::Result<()> {
     table::each(
+        rt,
         READ,
         b"\
 count 0 in two groups: 80 00: 9 gets 14
@@ -88,13 +91,14 @@ ratio, third group announces another, at the end: 01 00 00 80 80 80: 9 gets 14
 product, third group announces another: 01 00 00 00 81 80 80 01: 9 gets 14
 product, third group announces another, at the end: 01 00 00 00 81 80 80: 9 gets 14
 ",
-    );
+    )
 }
 
 // The volume cut at every byte; numbers that are cut inside, also where no further group could bring them into their range; bytes after the volume;
 // and lists of several sizes.
-fn read_ends() {
+fn read_ends(rt: &impl Print) -> io::Result<()> {
     table::each(
+        rt,
         READ,
         b"\
 cut at 0:: 9 gets 16
@@ -136,12 +140,13 @@ an entry, list one short: 01 00 00 00 01: 3 gets 8
 an entry, list just long enough: 01 00 00 00 01: 4 gets 0, 0 0 0 1
 no entry, empty list: 00: 0 gets 0
 ",
-    );
+    )
 }
 
 // Two faults: the first in reading order gives the refusal number, and a short list comes last.
-fn read_order() {
+fn read_order(rt: &impl Print) -> io::Result<()> {
     table::each(
+        rt,
         READ,
         b"\
 count 2001, minutes malformed: d1 0f 80 00: 9 gets 15
@@ -173,13 +178,14 @@ next minutes 1441, list for one: 02 00 00 00 01 a1 0b 00 00 01: 4 gets 15
 next minutes malformed, list for one: 02 00 00 00 01 80 00 00 00 01: 4 gets 14
 next minutes missing, list for one: 02 00 00 00 01: 4 gets 16
 ",
-    );
+    )
 }
 
 // Each number at both ends of its range, and beyond them; and on both sides of where its groups grow in number. Then lists that are not whole
 // entries; lent bytes of several lengths; and two faults, of which the first gives the refusal number.
-fn write() {
+fn write(rt: &impl Print) -> io::Result<()> {
     table::each(
+        rt,
         WRITE,
         b"\
 smallest entry: 01 00 00 00 01: 9 gets 0, 0 0 0 1
@@ -235,13 +241,14 @@ no entry, none lent:: 0 gets 8
 no entry, one byte lent: 00: 1 gets 0
 no entry, nine bytes lent: 00: 9 gets 0
 ",
-    );
+    )
 }
 
 // The document's example; each product's rate; amounts on both sides of a whole cent, alone and several of them; no duty at all; volumes that differ
 // in one ratio; refusals after an entry that owes some; and products out of range.
-fn duty() {
+fn duty(rt: &impl Print) -> io::Result<()> {
     table::each(
+        rt,
         DUTY,
         b"\
 1000 litres at 525 of product 4: 01 00 e8 07 8d 04 04: gets 0 owes 3150
@@ -287,13 +294,14 @@ twice 10080: 02 00 01 54 01 00 01 54 01: gets 0 owes 2
 product 0: 01 00 e8 07 8d 04 00: gets 15 owes 0
 product 9: 01 00 e8 07 8d 04 09: gets 15 owes 0
 ",
-    );
+    )
 }
 
 // Tables that load: of no pairs, of all eight, with gaps; and rates at both ends of their range and on both sides of where their groups grow in
 // number.
-fn load_rates() {
+fn load_rates(rt: &impl Print) -> io::Result<()> {
     table::each(
+        rt,
         LOAD,
         b"\
 no pairs: 00: gets 0, 0 0 0 0 0 0 0 0
@@ -317,13 +325,14 @@ rate 16383: 01 03 ff 7f: gets 0, 0 0 16383 0 0 0 0 0
 rate 16384: 01 03 80 80 01: gets 0, 0 0 16384 0 0 0 0 0
 rate 65535: 01 03 ff ff 03: gets 0, 0 0 65535 0 0 0 0 0
 ",
-    );
+    )
 }
 
 // Numbers out of their range, not in shortest form, or with a third group that announces another; products that are not above the one before; bytes
 // that are missing or left over.
-fn load_faults() {
+fn load_faults(rt: &impl Print) -> io::Result<()> {
     table::each(
+        rt,
         LOAD,
         b"\
 count 9 and nothing more: 09: gets 24
@@ -385,12 +394,13 @@ a pair after a pair: 01 03 05 04 05: gets 24
 a byte after two pairs: 02 02 c8 01 04 46 ff: gets 24
 a byte after all eight: 08 01 01 02 02 03 03 04 04 05 05 06 06 07 07 08 08 00: gets 24
 ",
-    );
+    )
 }
 
 // Two faults: the first in reading order gives the refusal number.
-fn load_order() {
+fn load_order(rt: &impl Print) -> io::Result<()> {
     table::each(
+        rt,
         LOAD,
         b"\
 count 9, product 4 after 4: 09 04 05 04 05: gets 24
@@ -408,13 +418,14 @@ product 3 after 4, a byte after the pairs: 02 04 05 03 05 00: gets 25
 product 0 after 4 and nothing more: 02 04 05 00: gets 24
 product 9 after 4, a byte after the pairs: 02 04 05 09 05 00: gets 24
 ",
-    );
+    )
 }
 
 // Enciphering from 0, from inside a word, on both sides of the mark, of no entry, and up to the limit. Then each refusal of cipher, where the volume
 // is sound, and each of the volume's before it; and cipher's own, each before the next.
-fn encipher(code: u32) {
+fn encipher(rt: &impl Print, code: u32) -> io::Result<()> {
     table::each(
+        rt,
         code,
         b"\
 two from 0: 02 00 e8 07 8d 04 04 0f a0 9c 01 e2 04 02: 1 at 0 mark 0 change 0 short 0 gets 0 at 14 mark 14, 0 1000 525 4 15 20000 610 2
@@ -456,13 +467,14 @@ false word at 0: 01 00 00 00 01: 1 at 0 mark 0 change 1 short 0 gets 13
 at the limit and false word: 01 00 00 00 01: 1 at 67108864 mark 9 change 1 short 0 gets 13
 to one byte past the limit: 01 00 00 00 01: 1 at 67108860 mark 9 change 0 short 0 gets 6
 ",
-    );
+    )
 }
 
 // Volumes, and strings that are cut: before the first number, after whole numbers, also at the ends of their ranges, and inside numbers, after groups
 // that some number in the range begins with.
-fn sound_or_cut() {
+fn sound_or_cut(rt: &impl Print) -> io::Result<()> {
     table::each(
+        rt,
         SOUND,
         b"\
 no entry: 00:
@@ -470,8 +482,9 @@ smallest entry: 01 00 00 00 01:
 largest entry: 01 a0 0b a0 8d 06 90 4e 08:
 two entries: 02 00 e8 07 8d 04 04 0f a0 9c 01 e2 04 02:
 ",
-    );
+    )?;
     table::each(
+        rt,
         CUT,
         b"\
 empty string::
@@ -499,13 +512,14 @@ ratio 10000: 01 00 00 90 4e:
 product 8, an entry missing: 02 00 00 00 08:
 two entries, last byte missing: 02 00 e8 07 8d 04 04 0f a0 9c 01 e2 04:
 ",
-    );
+    )
 }
 
 // Strings that are hopeless: at a last group, at a group that announces another where no number in the range begins with these groups, and at the
 // first byte after the last entry. Of two faults the first one counts.
-fn hopeless() {
+fn hopeless(rt: &impl Print) -> io::Result<()> {
     table::each(
+        rt,
         HOPELESS,
         b"\
 count 2001: d1 0f: at 2
@@ -548,23 +562,23 @@ count 2001, minutes 1441: d1 0f a1 0b: at 2
 minutes 1441, product 9: 01 a1 0b 00 00 09: at 3
 product 9, a byte after it: 01 00 00 00 09 00: at 5
 ",
-    );
+    )
 }
 
-fn main() {
-    read_ranges();
-    read_groups();
-    read_ends();
-    read_order();
-    write();
-    many::most();
-    many::over();
-    duty();
-    load_rates();
-    load_faults();
-    load_order();
-    sound_or_cut();
-    hopeless();
-    encipher(1);
-    encipher(2);
+fn main(rt: HostRuntime) -> io::Result<()> {
+    read_ranges(&rt)?;
+    read_groups(&rt)?;
+    read_ends(&rt)?;
+    read_order(&rt)?;
+    write(&rt)?;
+    many::most(&rt)?;
+    many::over(&rt)?;
+    duty(&rt)?;
+    load_rates(&rt)?;
+    load_faults(&rt)?;
+    load_order(&rt)?;
+    sound_or_cut(&rt)?;
+    hopeless(&rt)?;
+    encipher(&rt, 1)?;
+    encipher(&rt, 2)
 }

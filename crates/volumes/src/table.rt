@@ -10,6 +10,7 @@ use crate::duties::{owes, refuses_as_reading};
 use crate::enciphering::enciphers;
 use crate::lent::{BYTES, NUMBERS, bytes_are, fill_bytes, fill_list, line, list_is};
 use crate::loading::loads;
+use std::io;
 
 // What the cases of a table call. Any other number is the cipher code by which its volumes are enciphered.
 pub const READ: u32 = 0;
@@ -36,12 +37,19 @@ pub fn read_is(string: &[u8], list: &mut [u32], refusal: u64, entries: &[u32]) -
 }
 
 // Reads a string into a list of this size.
-pub fn reads(case: &[u8], string: &[u8], size: usize, refusal: u64, entries: &[u32])
+pub fn reads(
+    rt: &impl Print,
+    case: &[u8],
+    string: &[u8],
+    size: usize,
+    refusal: u64,
+    entries: &[u32],
+) -> io::Result<()>
     requires { size ≤ 8008 }
 {
     let mut list = [0u32; 8008];
     let ok = read_is(string, &mut list[0..size], refusal, entries);
-    line(b"read ", case, refusal, ok);
+    line(rt, "read ", case, refusal, ok)
 }
 
 // Whether writing a list into lent bytes gives this refusal number and this string.
@@ -53,12 +61,19 @@ fn written_is(list: &[u32], lent: &mut [u8], refusal: u64, string: &[u8]) -> boo
 }
 
 // Writes a list into this number of lent bytes.
-pub fn writes(case: &[u8], list: &[u32], size: usize, refusal: u64, string: &[u8])
+pub fn writes(
+    rt: &impl Print,
+    case: &[u8],
+    list: &[u32],
+    size: usize,
+    refusal: u64,
+    string: &[u8],
+) -> io::Result<()>
     requires { size ≤ 16016 }
 {
     let mut lent = [0u8; 16016];
     let ok = written_is(list, &mut lent[0..size], refusal, string);
-    line(b"write ", case, refusal, ok);
+    line(rt, "write ", case, refusal, ok)
 }
 
 // The place after the first such byte from a place on, or the end of the text.
@@ -156,51 +171,55 @@ pub fn wide(n: u32) -> u64 {
 }
 
 // Runs a case with the bytes and the numbers of its line.
-fn run(call: u32, case: &[u8], string: &[u8], numbers: &[u32]) {
+fn run(rt: &impl Print, call: u32, case: &[u8], string: &[u8], numbers: &[u32]) -> io::Result<()> {
     if call == LOAD {
-        loads(case, string, numbers);
-        return;
+        return loads(rt, case, string, numbers);
     }
     if SOUND <= call {
-        judges(case, string, call, numbers);
-        return;
+        return judges(rt, case, string, call, numbers);
     }
     if numbers.len() < 2 {
-        line(b"no numbers in ", case, 0, false);
-        return;
+        return line(rt, "no numbers in ", case, 0, false);
     }
     let size = size_of(numbers[0]);
     let refusal = wide(numbers[1]);
     let list = &numbers[2..];
     if call == DUTY {
-        owes(case, string, wide(numbers[0]), wide(numbers[1]));
+        owes(rt, case, string, wide(numbers[0]), wide(numbers[1]))
     } else if call == READ {
-        reads(case, string, size, refusal, list);
-        refuses_as_reading(case, string, refusal);
+        reads(rt, case, string, size, refusal, list)?;
+        refuses_as_reading(rt, case, string, refusal)
     } else if call == WRITE {
-        writes(case, list, size, refusal, string);
+        writes(rt, case, list, size, refusal, string)
     } else {
-        enciphers(call, case, string, numbers);
+        enciphers(rt, call, case, string, numbers)
     }
 }
 
 // Runs the case of a line.
-fn run_line(call: u32, case: &[u8], bytes: &[u8], numbers: &[u8]) {
+fn run_line(
+    rt: &impl Print,
+    call: u32,
+    case: &[u8],
+    bytes: &[u8],
+    numbers: &[u8],
+) -> io::Result<()> {
     let mut string = [0u8; 40];
     let mut list = [0u32; 16];
     let n = bytes_in(bytes, &mut string);
     let m = numbers_in(numbers, &mut list);
-    run(call, case, &string[0..n], &list[0..m]);
+    run(rt, call, case, &string[0..n], &list[0..m])
 }
 
 // Runs each case of a table.
-pub fn each(call: u32, table: &[u8]) {
+pub fn each(rt: &impl Print, call: u32, table: &[u8]) -> io::Result<()> {
     let mut at = 0;
     while at < table.len() {
         let a = past(table, at + 1, b':');
         let b = past(table, a, b':');
         let end = past(table, b, b'\n');
-        run_line(call, &table[at..a], &table[a..b], &table[b..end]);
+        run_line(rt, call, &table[at..a], &table[a..b], &table[b..end])?;
         at = end;
     }
+    Ok(())
 }
