@@ -1,33 +1,32 @@
--- What the walks of the calls on the caller's head have in common, whatever their other parameters are. A walk of such a call's MIR opens
--- the borrow of the head, copies the head out, hands it to the engine's call with the other parameters, stores the head that comes back, closes
--- the borrow at it, and returns the answer.
--- Assumes nothing.
+-- What walks of the calls on the caller's head have in common, whatever their other parameters are: the contract holds since a walk of such a call's
+-- MIR opens the borrow of the head, copies the head out, hands it to the engine's call with the other parameters, stores the head that comes back,
+-- closes the borrow at it, and returns the answer. The check writes a walk of such a call by itself; these are the steps for one by hand.
 --     OnHead, ByValue    the form of such a call, and that of the engine's call to which it hands all other parameters on
 --     walks_from         at entry: a walk starts at written-out machine values, with what there is then, `start`
---     opens-head         the borrow of the head is opened, and the head lies in memory; the other parameters' tokens and what they own follow
+--     opens_head         the borrow of the head is opened, and the head lies in memory; the other parameters' tokens and what they own follow
 --     asks               the call: a copy of the head and all that the other parameters own go to the callee, and what it hands back comes
---     closes-head        once the next head is stored: the borrow is closed at it
+--     closes_head        once the next head is stored: the borrow is closed at it
 --     ends               what is left then is what the contract asks at exit
 --     proved             so a walk proves the contract
 -- All that a walk knows of the callee is that it meets its contract. What the callee says of the other parameters' last values is handed out as it
--- came. What the callee ensures is what the wrapper's contract says at the same answer, head and last values (in each walk, the argument of `asks`
--- that ends in `id⊢`).
+-- came. What the callee ensures is what the wrapper's contract says at the same answer, head and last values (in a walk, the argument `said` of
+-- `asks`).
 use mathlib.Core.Path.{◌≡◌, refl, ap, sym, subst}
 use Prim.Native.Nat.{ℕ, suc}
 use mathlib.Core.List.{List, [], ◌∷◌}
 use seplogic.Ra.Ura.{Ura}
-use seplogic.Ra.TreeShare.{full_share}
-use mir.Syntax.{named, Name, Place, Opd as Operand, Body as Code, Fn, seq, call}
+use base.Fraction.{full_share}
+use mir.Syntax.{named, Callee as Name, Place, Opd as Operand, Body as Code, Fn, seq, call}
 use mir.Val.{Val, vptr}
 use base.Logic.{SProp, ent, emp, via, fst∗, id⊢}
 use base.Stored.{Gv}
 use base.Fml.{Lft, Share, Fml, fsep, flft, fobs, fauth, fbor, fobor}
 use prog.Model.{Model}
-use prog.Routine.{Routine, Env}
+use prog.Routine.{Routine}
 use prog.Wp.{Calls, Loops, WpFn, Closed, Env as Locals}
 use contract.Lifetimes.{Lfts, Shares, toks}
 use contract.Monad.{Fun}
-use contract.Running.{Running, tables, tables_of}
+use contract.Running.{Running, MachineTables, tables, tables_of}
 use sound.WpLaws.{FmC, fm_of, WpFn-mono}
 use types.Kit.{Goal, Post, Soaks, runs, lands, ◌$◌, ◌∵◌, !, qed, Step, step, Item, ‵, raw, ◌⊛◌, some, later, ⋆, Seq, move, use1, use2, drop, split, join, pick, fsplit, fsplit3, fjoin, fjoin3, feq_i, rewrite, suffices, frame, await, by, done}
 use types.Run.{Opds}
@@ -46,7 +45,7 @@ use denote.Triple.Clauses.{Ended, Clauses, Lasts, at_exit, closing}
 use denote.Triple.End.{Kepts, Fins, lasts_of}
 use denote.Triple.Spec.{triple_of}
 use denote.Triple.Statement.{Contract, Triple}
-use denote.Triple.Table.{entered, cited}
+use denote.Triple.Table.{entered}
 use denote.Triple.Walked.{Stays, fits_of, has_of, stay_ref, walk_of, AllGo, Goes-ref, Walks, walked, ends_at, walk_Meets}
 use Rattle.engine.specs.declared.Head.{Head}
 use Rattle.engine.specs.contracts.Head as T
@@ -64,8 +63,7 @@ pub use prog.Wp.{Heap, Calls, Loops, WpFn}
 pub use ghost.Atoms.{Atoms}
 use types.Logic.{Logic, sem}
 pub use contract.Monad.{Fun}
-pub use contract.Running.{given_of}
-pub use types.Kit.{Given, ◌$◌, ◌∵◌, !, qed, by, move}
+pub use types.Kit.{◌$◌, ◌∵◌, !, qed, by, move}
 pub use types.Run.{look, look_raw, init, store_raw, forget, stop, hop, fld, from, load, addr, of_opd, and_then, no_more, assigns, land, returns, enter, alloc1, alloc0, params1, pass1, pass0, free1, free0}
 pub use types.Part.{agg, whole, sub, look_in}
 pub use sound.WpLaws.{FmC}
@@ -215,14 +213,17 @@ module _ {n : ℕ} (Z : Form (suc n)) where
         owned ! R (Is R) makes r _ is $ move ! (1 ∷ 0 ∷ []) $ join ! $ move ! (1 ∷ 2 ∷ []) $ join ! $ join ! $ frame ! $ done !
 
   -- of a call whose code is e, and which calls f: the walk may take for granted that f meets the callee's contract
-  module _ {M : Type 1} {𝓤 : Ura M} (𝓛 : Logic 𝓤) (𝓜 : Model 𝓤 𝓛.H) (𝓡 : Running 𝓤 𝓛.H 𝓜) (c : Clauses 𝓤 OnHead) (callee : Contract 𝓤) (env : Env) (k : Name) (e : Fn) (f : Name) where
+  module _ {M : Type 1} {𝓤 : Ura M} (𝓛 : Logic 𝓤) (𝓜 : Model 𝓤 𝓛.H) (𝓡 : Running 𝓤 𝓛.H 𝓜) (c : Clauses 𝓤 OnHead) (callee : Contract 𝓤) (k : Name) (e : Fn) (f : Name) where
     open 𝓛 use {H}
 
-    pub proved : Closed 𝓤 H (tables 𝓤 H 𝓜 𝓡 env).C (tables 𝓤 H 𝓜 𝓡 env).Λ k e → {r : Routine} → env f ≡ r → Triple 𝓤 (𝓡.run r) callee
+    abbrev 𝓣 : MachineTables 𝓤 H 𝓜
+    𝓣 = tables 𝓤 H 𝓜 𝓡 𝓡.env
+
+    pub proved : Closed 𝓤 H 𝓣.C 𝓣.Λ k e → Triple 𝓤 (𝓡.run (𝓡.env f)) callee
         → ((C : Calls 𝓤 H) (Λ : Loops 𝓤 H) → FmC 𝓤 H 𝓛.laws C → Triple 𝓤 (C f) callee → Walks 𝓛 OnHead stayed (WpFn 𝓤 H C Λ e) c)
-        → Triple 𝓤 ((tables 𝓤 H 𝓜 𝓡 env).C k) (triple_of 𝓛 OnHead.signature (closing 𝓛 OnHead c))
+        → Triple 𝓤 (𝓣.C k) (triple_of 𝓛 OnHead.signature (closing 𝓛 OnHead c))
     unfolding tables_of
-    proved closed {r} calls met walk =
-        entered 𝓤 H _ (tables 𝓤 H 𝓜 𝓡 env).C (tables 𝓤 H 𝓜 𝓡 env).Λ k e closed
-        (walk_Meets 𝓛 OnHead stayed (Goes-ref 𝓛 (suc n) 0 tt (plain (λ _. T.the_row)), handed_go 𝓛 ss' ks') c (WpFn 𝓤 H (tables 𝓤 H 𝓜 𝓡 env).C (tables 𝓤 H 𝓜 𝓡 env).Λ e) (WpFn-mono 𝓤 H 𝓛.laws (tables_of 𝓤 H 𝓜 (tables 𝓤 H 𝓜 𝓡 env)) e)
-        (walk (tables 𝓤 H 𝓜 𝓡 env).C (tables 𝓤 H 𝓜 𝓡 env).Λ (fm_of 𝓤 H 𝓛.laws (tables_of 𝓤 H 𝓜 (tables 𝓤 H 𝓜 𝓡 env))) (cited 𝓤 H callee 𝓜 𝓡 env f r calls met)))
+    proved closed met walk =
+        entered 𝓤 H _ 𝓣.C 𝓣.Λ k e closed
+        (walk_Meets 𝓛 OnHead stayed (Goes-ref 𝓛 (suc n) 0 tt (plain (λ _. T.the_row)), handed_go 𝓛 ss' ks') c (WpFn 𝓤 H 𝓣.C 𝓣.Λ e) (WpFn-mono 𝓤 H 𝓛.laws (tables_of 𝓤 H 𝓜 𝓣) e)
+        (walk 𝓣.C 𝓣.Λ (fm_of 𝓤 H 𝓛.laws (tables_of 𝓤 H 𝓜 𝓣)) met))
