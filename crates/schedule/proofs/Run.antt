@@ -3,7 +3,7 @@
 use mathlib.Core.Path.{◌≡◌, refl, sym, ap, ◌∙◌}
 use mathlib.Core.List.{List, ◌++◌, append_assoc}
 use mathlib.Core.Logic.{⊎_elim}
-use Prim.Native.Nat.{ℕ, ◌+◌, ◌-◌, ◌/◌, ◌≤◌, ◌<◌}
+use Prim.Native.Nat.{ℕ, ◌+◌, ◌-◌, ◌*◌, ◌/◌, ◌%◌, ◌≤◌, ◌<◌}
 use native.Mathlib.Nat.{zero-add, eq-or-lt_of_le}
 use native.Mathlib.Omega.{arith}
 use lib.ListN.{length, get_or, set, take, drop, length-append, length-set, length-drop, take-append-drop}
@@ -117,6 +117,10 @@ pub run_front : (w l x r : List ℕ) (n k : ℕ) → length l ≡ k → Run n (w
 run_front w l x r n k long p q = rw (take_at l x k long) (p, rw long at q)
 
 -- ---- an area
+
+-- the words before W(T/2) but for W0..15, and those from W(T/2) on, are fours
+pub fours : (half all : ℕ) → half % 4 ≡ 0 → 32 ≤ half → all ≡ 5 * half → ((half - 16) % 4 ≡ 0) × ((all - half) % 4 ≡ 0)
+fours half all e l a = omega arith
 
 -- the words before W(T/2), which are made of W0..15, and the area's, which are made of the last sixteen of them
 module _ (c : Cipher) (w b v a : List ℕ) (sixteen : length w ≡ 16) (short : length b ≡ table_length c / 2 - 16) (long : length a ≡ area_length c) where
