@@ -93,6 +93,7 @@ pub fn ready_with_word(code: u32, position: u64, word: u32, area: &[u32]) -> Che
 }
 
 // The conditions 1 and 5, those of a head alone.
+#[tactic(auto, using(crate::proofs::Conditions::head_accepted, crate::proofs::Checks::passed_head))]
 pub fn head_check(code: u32, position: u64) -> Checked
     ensures { (Checks.checked_is result ≡ Conditions.head_check code position) × Checks.HeadReady result position }
 {

@@ -1,17 +1,12 @@
 -- `head_check` meets its contract: its tests are the conditions 1 and 5, in this order.
 use Rattle.std.proofs.Common.{sym, arith}
-use Rattle.conditions.proofs.Conditions.{head_unknown, head_position, head_accepted}
-use Rattle.conditions.proofs.Checks.{refused_head, passed_head}
+use Rattle.conditions.proofs.Conditions.{head_unknown, head_position}
+use Rattle.conditions.proofs.Checks.{refused_head}
 use Rattle.conditions.proofs.head_check.Goals as goal
 
 pub returns-in_default : goal.returns-in_default
 returns-in_default c = refused_head _ _ 1 (λ e. omega arith) c.refused.ensures (head_unknown _ _ (sym c.in_default.ensures)) _
 
-pub returns-then-position-le-LIMIT : goal.returns-then-position-le-LIMIT
-returns-then-position-le-LIMIT c =
-    let l = c.if-position-le-LIMIT.true in
-    passed_head _ _ _ c.passed.ensures (head_accepted _ _ _ (sym c.in-Is.ensures) l) _ l
-
 pub returns : goal.returns
 returns c =
-    refused_head _ _ 5 (λ e. omega arith) c.refused-2.ensures (head_position _ _ _ (sym c.in-Is.ensures) c.if-position-le-LIMIT.false) _
+    refused_head _ _ 5 (λ e. omega arith) c.refused-2.ensures (head_position _ _ _ (sym c.in-Is.ensures) (omega arith)) _
