@@ -10,11 +10,10 @@ use lib.IntN.{ℤ, pos, ◌+ℤ◌}
 use lib.ListN.{length}
 use Rattle.cipher.specs.declared.Cipher.{Cipher}
 use Rattle.cipher.specs.Numbers.{key_length, iv_length}
-use Rattle.steps.specs.Steps.{word_at}
 use Rattle.checkpoint.specs.Checkpoint.{length_of}
 use Rattle.laws.specs.Result.{Result, refused, accepted, Outcome, ◌>>=◌}
 use Rattle.conditions.specs.Limit.{limit}
-use Rattle.conditions.specs.Conditions.{ready, cipher_check, within, end_of, move_check, undo_at, found_or12, recover_check}
+use Rattle.conditions.specs.Conditions.{cipher_check, within, end_of, move_check, undo_at, recover_check}
 use Rattle.conditions.proofs.Conditions.{word_not_ready, word_false, word_true}
 use Rattle.engine.specs.declared.Head.{Head}
 use Rattle.engine.specs.Calls.{head_ready, cipher, encipher_volume, move, write, recover}

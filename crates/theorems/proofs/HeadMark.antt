@@ -19,7 +19,7 @@ use Rattle.engine.specs.declared.Head.{Head}
 use Rattle.engine.specs.Head.{with_mark, mark_after}
 use Rattle.volume.specs.Calls.{entries_in}
 use Rattle.theorems.proofs.Encipher.{enciphered, volume_some}
-use Rattle.engine.specs.Calls.{Engine, engine_of, head_ready, Ciphered, Written, Recovered, Loaded, Counted, set_up, cipher, cipher_call, encipher_volume, encipher_volume_call, move, move_call, write, write_call, recover, recover_call, load, spent, spent_call}
+use Rattle.engine.specs.Calls.{Engine, engine_of, head_ready, Ciphered, Recovered, Loaded, Counted, set_up, cipher, cipher_call, encipher_volume, encipher_volume_call, move, move_call, write, write_call, recover, recover_call, load, spent, spent_call}
 use Rattle.theorems.specs.Account.{Call, AllGiven, Four, IsFour, Account, empty, holds, engine_after, account_after}
 use Rattle.theorems.specs.Farthest.{largest, farthest_after}
 use Rattle.theorems.specs.HeadMark.{SameButMark, SameMoved, SameCiphered, SameWritten, SameRecovered, HeadMark}

@@ -1,8 +1,8 @@
 -- The propositions on the refinery's own rates, from the laws of the crate `rates` and what is shown of the duty under any table. Assumes nothing.
 use mathlib.Core.Path.{◌≡◌, refl, sym, ap, ◌∙◌}
 use mathlib.Core.List.{List, [], ◌∷◌, ◌++◌, Memᴰ}
-use mathlib.Core.Logic.{◌↔◌, ◌⊎◌, inl, inr, ⊎_elim}
-use Prim.Native.Nat.{ℕ, zero, suc, ◌+◌, ◌*◌, ◌≤◌, ◌<◌}
+use mathlib.Core.Logic.{◌↔◌}
+use Prim.Native.Nat.{ℕ, suc, ◌+◌, ◌≤◌}
 use native.Mathlib.Omega.{arith}
 use lib.ListN.{length}
 use Rattle.laws.specs.Result.{Result, refused, accepted, Outcome, ◌>>=◌}
@@ -19,7 +19,7 @@ use Rattle.rates.proofs.Tables.{table_in_order, table_was, table_back, table_25,
 use Rattle.rates.proofs.Among.{each_rate, rate_in_table, pair_above, among_pair, among_none, among_most}
 use Rattle.duty.specs.Duty.{entry_duty}
 use Rattle.theorems.specs.RefineryRates.{NotAbove, in_use_after, NoneLoads, RefineryRates}
-use Rattle.theorems.proofs.Within.{Within, by_one, by_none, first, after, rates_within}
+use Rattle.theorems.proofs.Within.{Within, by_one, first, after, rates_within}
 use Rattle.theorems.proofs.ComponentDuty.{duty_most, greatest_owe}
 use Rattle.theorems.proofs.ReadingEffect.{reading_effect}
 

@@ -3,7 +3,7 @@ use mathlib.Core.Path.{◌≡◌, refl, sym, ap, ◌∙◌}
 use mathlib.Core.Bool.{Bool, true, false, ◌&&◌, false≢true}
 use mathlib.Core.List.{List, [], ◌∷◌}
 use mathlib.Core.Logic.{◌↔◌}
-use Prim.Native.Nat.{ℕ, ◌+◌, ◌*◌, ◌/◌, ◌%◌, ◌^◌, ◌≤◌, ◌<◌}
+use Prim.Native.Nat.{ℕ, ◌*◌, ◌/◌, ◌%◌, ◌≤◌, ◌<◌}
 use native.Mathlib.Omega.{arith}
 use borrow.Author.Tests.{eq-eqb, ne_eqb, eqb-true, lt-leb, leb-false}
 use lib.Dec.{eqb, leb}
@@ -25,9 +25,8 @@ use Rattle.volume.proofs.Measuring.{entry_length}
 use Rattle.volume.proofs.Ranges.{minutes_in, litres_in, ratio_in, product_in}
 use Rattle.volume.proofs.Undo.{volume_back, volume_was, reads_back, writes_back}
 use Rattle.volume.proofs.Shows.{read_shows, read_accepts, write_lines, write_shows, write_accepts}
-use Rattle.engine.specs.declared.Head.{Head}
 use Rattle.engine.specs.Calls.{Engine, Ciphered, encipher_volume_call, encipher_volume}
-use Rattle.theorems.specs.Account.{call_cipher, call_encipher_volume, called, Account, unless_refused, feed}
+use Rattle.theorems.specs.Account.{call_cipher, call_encipher_volume, called, Account, feed}
 use Rattle.theorems.specs.Farthest.{reached_by}
 use Rattle.theorems.specs.ShiftVolume.{InRange, AllInRange, Volume, ShiftVolume}
 use Rattle.theorems.proofs.Within.{first, after, volume_within, within_not}
