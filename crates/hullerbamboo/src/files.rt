@@ -1,9 +1,12 @@
 // Files by name, where `-` is standard input or standard output.
 ghost use Rattle.std.specs.Prelude.{◌≤◌, length};
-ghost use Rattle.io.specs.Counts.{IsPrefixLen};
 
-use crate::say;
-use libc::{STDIN_FILENO, STDOUT_FILENO};
+use crate::{say, words};
+use std::fs;
+use std::fs::{OpenFile, OpenOptions, Permissions};
+use std::io::{Read, Write};
+use std::os::unix::fs::{OpenOptionsExt, PermissionsExt};
+use std::rt::{Files, Runtime};
 
 // What was read: whether the reading went well, and how many bytes are at the start of the buffer.
 #[derive(Clone, Copy)]
@@ -12,121 +15,128 @@ pub struct Got {
     pub n: usize,
 }
 
+// Where the bytes of a file go: to standard output, or into a new file.
+#[derive(Drop)]
+pub enum Target<F> {
+    Standard,
+    New(F),
+}
+
 // Whether a name is `-`.
-pub fn is_standard(path: &[u8]) -> bool {
-    lab::same(path, b"-")
+pub fn is_standard(path: &str) -> bool {
+    lab::same(path.as_bytes(), b"-")
 }
 
-// Whether a read fails now, as it does again where the one before it failed.
-fn read_fails(fd: i32) -> bool {
-    let mut byte = [0u8; 1];
-    libc::read(fd, &mut byte) < 0
-}
-
-// Reads until the buffer is full or the input ends. A short count is looked into, since a read that failed gives one too.
-fn read_from(fd: i32, path: &[u8], buffer: &mut [u8]) -> Got
-    ensures { IsPrefixLen result.n buffer.new }
+// Reads until the buffer is full or the input ends.
+fn read_from(
+    rt: &(impl Eprint + Alloc),
+    input: &mut impl Read,
+    path: &str,
+    buffer: &mut [u8],
+) -> Got
+    ensures { result.n ≤ length buffer.new }
 {
-    let n = io::read_full(fd, buffer);
-    let mut ok = true;
-    if n < buffer.len() {
-        if read_fails(fd) {
-            say::failed(path);
-            ok = false;
+    let mut n = 0;
+    while n < buffer.len() {
+        match input.read(&mut buffer[n..]) {
+            Ok(0) => break,
+            Ok(more) => n += more,
+            Err(e) => {
+                say::failed(rt, path, &e);
+                return Got { ok: false, n };
+            }
         }
     }
-    Got { ok: ok, n: n }
+    Got { ok: true, n }
 }
 
 // Reads a file up to the buffer's length.
-fn read(path: &[u8], buffer: &mut [u8]) -> Got
-    ensures { IsPrefixLen result.n buffer.new }
+fn read<R: Runtime>(rt: &R, path: &str, buffer: &mut [u8]) -> Got
+    ensures { result.n ≤ length buffer.new }
 {
-    let fd = os::open_read(path);
-    if fd < 0 {
-        say::failed(path);
-        return nothing(buffer);
-    }
-    let got = read_from(fd, path, buffer);
-    libc::close(fd);
-    got
-}
-
-// Nothing was read.
-fn nothing(buffer: &[u8]) -> Got
-    ensures { IsPrefixLen result.n buffer.now }
-{
-    Got {
-        ok: false,
-        n: io::count(0, buffer),
+    match fs::open(rt, path) {
+        Ok(mut file) => read_from(rt, &mut file, path, buffer),
+        Err(e) => {
+            say::failed(rt, path, &e);
+            Got { ok: false, n: 0 }
+        }
     }
 }
 
-// Makes a file that only its owner may read, and answers a descriptor, or a number below 0 where it cannot, as where the name is taken.
-pub fn make(path: &[u8]) -> i32 {
+// Makes a file that only its owner may read, and answers where its bytes go, or nothing where it cannot, as where the name is taken.
+pub fn make<R: Files + Eprint + Alloc>(rt: &R, path: &str) -> Option<Target<R::File>> {
     if is_standard(path) {
-        return STDOUT_FILENO;
+        return Some(Target::Standard);
     }
-    let fd = os::create(path);
-    if fd < 0 {
-        say::failed(path);
-        return fd;
+    let mut options = OpenOptions::new();
+    options.write(true).create_new(true).mode(0o600);
+    match options.open(rt, path) {
+        Ok(file) => {
+            let _ = file.set_permissions(Permissions::from_mode(0o600));
+            Some(Target::New(file))
+        }
+        Err(e) => {
+            say::failed(rt, path, &e);
+            None
+        }
     }
-    libc::fchmod(fd, 0o600);
-    fd
 }
 
 // Removes a file that this program made.
-pub fn remove(path: &[u8]) {
+pub fn remove(rt: &impl Files, path: &str) {
     if !is_standard(path) {
-        os::unlink(path);
+        let _ = fs::remove_file(rt, path);
     }
 }
 
 // Writes what a file is to hold, and closes it.
-pub fn store(fd: i32, path: &[u8], bytes: &[u8]) -> bool {
-    let ok = io::write_all(fd, bytes);
-    if !ok {
-        say::failed(path);
+pub fn store<R: Files + Print + Eprint + Alloc>(
+    rt: &R,
+    target: Target<R::File>,
+    path: &str,
+    bytes: &[u8],
+) -> bool {
+    let written = match target {
+        Target::Standard => rt.write_all(bytes),
+        Target::New(mut file) => file.write_all(bytes),
+    };
+    match written {
+        Ok(()) => true,
+        Err(e) => {
+            say::failed(rt, path, &e);
+            false
+        }
     }
-    if !is_standard(path) {
-        libc::close(fd);
-    }
-    ok
 }
 
 // Makes a file with these bytes; where they cannot be written, it is removed again.
-pub fn save(path: &[u8], bytes: &[u8]) {
-    let fd = make(path);
-    if fd < 0 {
+pub fn save<R: Files + Print + Eprint + Alloc>(rt: &R, path: &str, bytes: &[u8]) {
+    let Some(target) = make(rt, path) else {
         return;
-    }
-    if !store(fd, path, bytes) {
-        remove(path);
+    };
+    if !store(rt, target, path, bytes) {
+        remove(rt, path);
     }
 }
 
 // Reads the file that a word of the command line names up to the buffer's length; from standard input `size` bytes and no more, since others may
 // follow.
-pub fn read_word(i: usize, size: usize, buffer: &mut [u8]) -> Got
+pub fn read_word<R: Runtime>(rt: &R, i: usize, size: usize, buffer: &mut [u8]) -> Got
     requires { size ≤ length buffer.old }
-    ensures { IsPrefixLen result.n buffer.new }
+    ensures { result.n ≤ length buffer.new }
 {
-    let mut path = io::buffer();
-    let n = os::arg(i, &mut path);
-    if is_standard(&path[..n]) {
-        return read_some(&path[..n], size, buffer);
+    let mut word = [0u8; 4096];
+    let path = words::word(rt, i, &mut word);
+    if is_standard(path) {
+        return read_some(rt, path, size, buffer);
     }
-    read(&path[..n], buffer)
+    read(rt, path, buffer)
 }
 
 // Reads `size` bytes of standard input.
-fn read_some(path: &[u8], size: usize, buffer: &mut [u8]) -> Got
+fn read_some<R: Runtime>(rt: &R, path: &str, size: usize, buffer: &mut [u8]) -> Got
     requires { size ≤ length buffer.old }
-    ensures { IsPrefixLen result.n buffer.new }
+    ensures { result.n ≤ length buffer.new }
 {
-    let got = read_from(STDIN_FILENO, path, &mut buffer[..size]);
-    let ok = got.ok;
-    let n = got.n;
-    Got { ok: ok, n: n }
+    read_from(rt, &mut rt.reader(), path, &mut buffer[..size])
 }

@@ -6,50 +6,27 @@ mod files;
 mod log;
 mod say;
 mod sizes;
+mod words;
 
 use lab::Command;
-use libc::{STDERR_FILENO, STDOUT_FILENO};
+use std::io;
 
-// Whether a word of the command line can be held, and says so where it cannot.
-fn word_fits(i: usize) -> bool {
-    let mut word = io::buffer();
-    os::arg(i, &mut word);
-    if os::errno() != 0 {
-        say::failed(b"a word of the command line");
-        return false;
+fn main(rt: HostRuntime) -> io::Result<()> {
+    if !words::fit(&rt) {
+        return Ok(());
     }
-    true
-}
-
-// Whether all words of the command line can be held.
-fn words_fit() -> bool {
-    let count = os::arg_count();
-    let mut i = 1;
-    while i < count {
-        if !word_fits(i) {
-            return false;
-        }
-        i += 1;
+    let mut buffer = [0u8; 16];
+    let word = words::word(&rt, 1, &mut buffer);
+    match lab::command_of(word.as_bytes()) {
+        Command::Cipher => commands::cipher(&rt),
+        Command::Describe => commands::describe(&rt)?,
+        Command::Recover => commands::recover(&rt),
+        Command::Open => commands::open(&rt),
+        Command::At => commands::at(&rt),
+        Command::Write => commands::write(&rt),
+        Command::SameRun => commands::same_run(&rt)?,
+        Command::Help => print!(rt; "{}", say::USAGE)?,
+        Command::Unknown => say::usage(&rt),
     }
-    true
-}
-
-fn main() {
-    if !words_fit() {
-        return;
-    }
-    let mut word = [0u8; 16];
-    let n = os::arg(1, &mut word);
-    let command = lab::command_of(&word[..n]);
-    match command {
-        Command::Cipher => commands::cipher(),
-        Command::Describe => commands::describe(),
-        Command::Recover => commands::recover(),
-        Command::Open => commands::open(),
-        Command::At => commands::at(),
-        Command::Write => commands::write(),
-        Command::SameRun => commands::same_run(),
-        Command::Help => say::usage(STDOUT_FILENO),
-        Command::Unknown => say::usage(STDERR_FILENO),
-    }
+    Ok(())
 }
