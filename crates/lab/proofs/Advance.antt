@@ -1,4 +1,4 @@
--- No refusal is numbered 0, so that a refusal of 0 means that the call was accepted: for cipher and load. Assumes nothing.
+-- No refusal is numbered 0, so that a refusal of 0 means that the call was accepted: for cipher and load.
 use mathlib.Core.Path.{◌≡◌, refl, sym, ap, ◌∙◌}
 use mathlib.Core.List.{List, [], ◌∷◌}
 use Prim.Native.Nat.{ℕ, ◌+◌, ◌*◌, ◌≤◌}

@@ -1,4 +1,4 @@
--- Reading a number in decimal from the left: one digit more, a byte that is no digit, and a value that does not fit. Assumes nothing.
+-- Reading a number in decimal from the left: one digit more, a byte that is no digit, and a value that does not fit.
 use mathlib.Core.Path.{◌≡◌, refl}
 use mathlib.Core.Bool.{Bool, true, false, cond}
 use mathlib.Core.List.{List, [], ◌∷◌}

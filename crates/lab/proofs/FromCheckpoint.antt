@@ -1,4 +1,4 @@
--- What a checkpoint alone gives: what load accepts is moved back to the tables of set-up. Assumes nothing.
+-- What a checkpoint alone gives: what load accepts is moved back to the tables of set-up.
 use mathlib.Core.Path.{◌≡◌, refl, sym, ap, ◌∙◌, subst}
 use mathlib.Core.List.{List, [], ◌∷◌, ◌++◌, flatten}
 use mathlib.Core.Logic.{⊎_elim}

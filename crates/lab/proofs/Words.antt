@@ -1,4 +1,4 @@
--- An answer that is true exactly where two lists are equal is their comparison. Assumes nothing.
+-- An answer that is true exactly where two lists are equal is their comparison.
 use mathlib.Core.Path.{◌≡◌, refl, sym}
 use mathlib.Core.Bool.{Bool, true, false, false≢true}
 use mathlib.Core.List.{List}
