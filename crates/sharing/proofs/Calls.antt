@@ -17,9 +17,9 @@ use Rattle.conditions.specs.Conditions.{ready, ready_with_word, cipher_check}
 use Rattle.engine.specs.declared.Head.{Head}
 use Rattle.engine.specs.Calls.{engine_of, head_ready, Ciphered, cipher, cipher_call}
 use Rattle.sharing.specs.declared.ShareAccount.{ShareAccount}
-use Rattle.sharing.specs.Shares.{closed_account, opened_account, share_of, drawn_from}
+use Rattle.sharing.specs.Shares.{closed_account, share_of, drawn_from}
 use Rattle.sharing.specs.Found.{refusal_of, RestIs}
-use Rattle.sharing.specs.Calls.{while_closed, open_sharing, open_sharing_call, share_check, draw_check, draw, draw_call, close_sharing, close_sharing_call}
+use Rattle.sharing.specs.Calls.{open_sharing, open_sharing_call, share_check, draw_check, draw, draw_call, close_sharing, close_sharing_call}
 
 -- ── the engine's calls with a share account ──
 
