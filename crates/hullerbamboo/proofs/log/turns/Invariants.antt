@@ -1,0 +1,7 @@
+-- The loop ends because the position grows and stays within the limit.
+use Rattle.std.proofs.Common.{◌-◌}
+use Rattle.conditions.specs.Limit.{limit}
+use Rattle.hullerbamboo.proofs.log.turns.Given as goal
+
+abbrev pub decreases-loop-h : goal.decreases-loop-h
+decreases-loop-h g l = limit - l.h.position
