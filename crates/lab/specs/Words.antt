@@ -25,8 +25,8 @@ abbrev pub «at» : List ℕ
 abbrev pub «write» : List ℕ
 «write» = 119 ∷ 114 ∷ 105 ∷ 116 ∷ 101 ∷ []
 
-abbrev pub «same_run_lem» : List ℕ
-«same_run_lem» = 115 ∷ 97 ∷ 109 ∷ 101 ∷ 45 ∷ 114 ∷ 117 ∷ 110 ∷ []
+abbrev pub «same_run» : List ℕ
+«same_run» = 115 ∷ 97 ∷ 109 ∷ 101 ∷ 45 ∷ 114 ∷ 117 ∷ 110 ∷ []
 
 abbrev pub «help» : List ℕ
 «help» = 104 ∷ 101 ∷ 108 ∷ 112 ∷ []
@@ -46,7 +46,7 @@ command_of w =
     (cond (same w «open») Open
     (cond (same w «at») At
     (cond (same w «write») Write
-    (cond (same w «same_run_lem») SameRun
+    (cond (same w «same_run») SameRun
     (cond (same w «help») Help Unknown)))))))
 
 -- the code of the cipher that a word names, 0 where it names none

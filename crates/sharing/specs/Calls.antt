@@ -45,7 +45,7 @@ pub record Opened : Type 0 where
   pub engine : Engine
 
 -- **Open sharing** 21: 'a second opening'. Then 'the engine's own refusals of a cipher call (of no bytes, for an opening)': 1, 4, 5, 13; that 6 is never
--- given is `open-never-6` of FourLines in theorems/specs. 20: 'shares whose sum exceeds the stream left', as whole numbers.
+-- given is `open_never_6` of FourLines in theorems/specs. 20: 'shares whose sum exceeds the stream left', as whole numbers.
 unfoldable pub open_sharing : (s : ShareAccount) (head : Head) (area : List ℕ) (share0 share1 share2 share3 : ℕ) → Result Opened
 open_sharing s h area share0 share1 share2 share3 = do
   refuse 21 unless is_closed s

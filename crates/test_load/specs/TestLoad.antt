@@ -24,7 +24,7 @@ seed_and_count seed count = do
   refuse 18 unless leb count 1000
 
 -- **Test load** 'sets the engine up itself and runs 0 to 1,000 such calls'. It refuses with 17 and 18, 'both before the refusals of set-up': 1, 2, 3, 4.
--- That no generated call is refused is `each-accepted` of TestLoad in theorems/specs.
+-- That no generated call is refused is `each_accepted` of TestLoad in theorems/specs.
 unfoldable pub test_load : (seed count code : ℕ) (key iv area : List ℕ) → Result Engine
 test_load seed count code key iv area = do
   seed_and_count seed count

@@ -148,8 +148,8 @@ feed size a (call_encipher_volume volume) =
     unless_refused a (entries_in volume >> cipher_check (account_ready size a) (account_position a) (length volume))
     (λ c. at a (account_position a + length volume))
 feed size a (call_move distance) = feed_move size a distance
--- 'Load makes it the four whose checkpoint the string is': load's conditions find that four by undoing. `feed-load` of Demand3 says that it is the
--- one whose checkpoint the string is, and `feed-else` that the account stays where the string is the checkpoint of none.
+-- 'Load makes it the four whose checkpoint the string is': load's conditions find that four by undoing. `feed_load` of Demand3 says that it is the
+-- one whose checkpoint the string is, and `feed_else` that the account stays where the string is the checkpoint of none.
 feed size a (call_load string) =
     unless_refused a (load_check string size)
     (λ l. holds (record { cipher = l.cipher; key = l.key; iv = l.iv; position = l.position }))

@@ -51,7 +51,7 @@ pub record HeadMark : Type 0 where
   pub encipher_raises :
       (h : Head) (area volume : List ℕ) (r : Ciphered) → encipher_volume h area volume ≡ accepted r
       → r.engine.head.mark ≡ max h.mark (h.position + length volume)
-  -- write and recover leave the whole head, and so does spent: `spent-gives`
+  -- write and recover leave the whole head, and so does spent: `spent_gives`
   pub write_leaves : (h : Head) (area lent : List ℕ) (w : Written) → write h area lent ≡ accepted w → w.engine.head ≡ h
   pub recover_leaves : (h : Head) (area key iv : List ℕ) (r : Recovered) → recover h area key iv ≡ accepted r → r.engine.head ≡ h
   -- 'In a head that the caller made up, the mark is taken as given': spent gives it as it is, ..

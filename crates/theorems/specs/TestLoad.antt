@@ -83,7 +83,7 @@ pub record TestLoad : Type 0 where
       (seed count code : ℕ) (key iv area : List ℕ) (e : Engine) → AllBytes key → AllBytes iv → test_load seed count code key iv area ≡ accepted e
       → (seed ≡ 0 → ⊥) × (count ≤ 1000) × ((c : Cipher) × (code ≡ code_of c) × Pair c key iv × (length area ≡ area_length c))
   -- 'Show that each generated call is accepted, ..': from every engine, the set up and then each call that the words give. That the load leaves what
-  -- these calls leave is `as-those-calls`.
+  -- these calls leave is `as_those_calls`.
   pub each_accepted :
       (e : Engine) (seed count code : ℕ) (key iv : List ℕ) → AllBytes key → AllBytes iv
       → answered e (call_test_load seed count code key iv) ≡ 0 → EachAccepted e (set_up_and_calls seed count code key iv)
