@@ -3,6 +3,7 @@ use crate::compare::same_account;
 use crate::lines;
 use crate::state::{State, account, with_account};
 use sharing::ShareAccount;
+use std::io;
 
 // Whether a closing gets this number and hands back this account.
 fn is_right(from: ShareAccount, refusal: u64, to: ShareAccount) -> bool {
@@ -12,25 +13,25 @@ fn is_right(from: ShareAccount, refusal: u64, to: ShareAccount) -> bool {
 }
 
 // A closing that is accepted. Gives what it is to leave.
-pub fn closes(from: State) -> State {
+pub fn closes(rt: &impl Print, from: State) -> io::Result<State> {
     let before = from.account;
     let to = account(0, [0, 0, 0, 0], 0);
     let ok = is_right(before, 0, to);
-    lines::start(from);
-    lines::text(b" closing");
-    lines::refusal(0);
-    lines::text(b",");
-    lines::account(to);
-    lines::end(ok);
-    with_account(from, to)
+    lines::start(rt, from)?;
+    lines::text(rt, " closing")?;
+    lines::refusal(rt, 0)?;
+    lines::text(rt, ",")?;
+    lines::account(rt, to)?;
+    lines::end(rt, ok)?;
+    Ok(with_account(from, to))
 }
 
 // A closing that is refused.
-pub fn no_closing(from: State, refusal: u64) {
+pub fn no_closing(rt: &impl Print, from: State, refusal: u64) -> io::Result<()> {
     let before = from.account;
     let ok = is_right(before, refusal, before);
-    lines::start(from);
-    lines::text(b" closing");
-    lines::refusal(refusal);
-    lines::end(ok);
+    lines::start(rt, from)?;
+    lines::text(rt, " closing")?;
+    lines::refusal(rt, refusal)?;
+    lines::end(rt, ok)
 }

@@ -8,6 +8,7 @@ use crate::state::State;
 use crate::while_open::called;
 use engine::Head;
 use sharing::{ShareAccount, ShareDone};
+use std::io;
 
 // A draw of the first of these bytes, with the first of these words as area.
 fn draw_in(
@@ -42,38 +43,39 @@ fn drawn(from: State, line: u64, n: usize) -> Left {
 }
 
 // The line of a draw so far.
-fn line_of(from: State, line: u64, n: usize, refusal: u64) {
-    lines::start(from);
-    lines::number(b" line ", line);
-    lines::number(b" draws ", n as u64);
-    lines::refusal(refusal);
+fn line_of(rt: &impl Print, from: State, line: u64, n: usize, refusal: u64) -> io::Result<()> {
+    lines::start(rt, from)?;
+    lines::number(rt, " line ", line)?;
+    lines::number(rt, " draws ", n as u64)?;
+    lines::refusal(rt, refusal)
 }
 
 // A draw that is accepted. Gives what it left.
 pub fn draws(
+    rt: &impl Print,
     from: State,
     line: u64,
     n: usize,
     to: ShareAccount,
     position: u64,
     mark: u64,
-) -> State {
+) -> io::Result<State> {
     let got = drawn(from, line, n);
     let own = called(false, from, Call::Cipher(n));
     let ok = same_left(got, own) & left_at(got, to, position, mark);
-    line_of(from, line, n, 0);
-    lines::place(position, mark);
-    lines::account(to);
-    lines::end(ok & (got.refusal == 0));
-    got.state
+    line_of(rt, from, line, n, 0)?;
+    lines::place(rt, position, mark)?;
+    lines::account(rt, to)?;
+    lines::end(rt, ok & (got.refusal == 0))?;
+    Ok(got.state)
 }
 
 // A draw that is refused.
-pub fn no_draw(from: State, line: u64, n: usize, refusal: u64) {
+pub fn no_draw(rt: &impl Print, from: State, line: u64, n: usize, refusal: u64) -> io::Result<()> {
     let head = from.head;
     let account = from.account;
     let got = drawn(from, line, n);
     let stays = left_at(got, account, head.position, head.mark);
-    line_of(from, line, n, refusal);
-    lines::end(stays & same_left(got, kept(from, refusal)));
+    line_of(rt, from, line, n, refusal)?;
+    lines::end(rt, stays & same_left(got, kept(from, refusal)))
 }

@@ -2,69 +2,64 @@
 use crate::compare::same_account;
 use crate::state;
 use crate::state::State;
-use libc::STDOUT_FILENO;
 use sharing::ShareAccount;
+use std::io;
 
-pub fn text(bytes: &[u8]) {
-    io::write_all(STDOUT_FILENO, bytes);
+pub fn text(rt: &impl Print, part: &str) -> io::Result<()> {
+    print!(rt; "{part}")
 }
 
 // A name and a number.
-pub fn number(name: &[u8], n: u64) {
-    text(name);
-    io::print_decimal(STDOUT_FILENO, n);
+pub fn number(rt: &impl Print, name: &str, n: u64) -> io::Result<()> {
+    print!(rt; "{name}{n}")
 }
 
 // A name and the shares of four lines.
-pub fn shares(name: &[u8], of: [u64; 4]) {
-    number(name, of[0]);
-    number(b" ", of[1]);
-    number(b" ", of[2]);
-    number(b" ", of[3]);
+pub fn shares(rt: &impl Print, name: &str, of: [u64; 4]) -> io::Result<()> {
+    number(rt, name, of[0])?;
+    number(rt, " ", of[1])?;
+    number(rt, " ", of[2])?;
+    number(rt, " ", of[3])
 }
 
 // A share account, in one word where it is that of no sharing.
-pub fn account(a: ShareAccount) {
+pub fn account(rt: &impl Print, a: ShareAccount) -> io::Result<()> {
     let of = a.shares;
     if same_account(a, state::account(0, [0, 0, 0, 0], 0)) {
-        text(b" closed");
-        return;
+        return text(rt, " closed");
     }
-    number(b" opened ", a.opened);
-    shares(b" shares ", of);
-    number(b" common ", a.common);
+    number(rt, " opened ", a.opened)?;
+    shares(rt, " shares ", of)?;
+    number(rt, " common ", a.common)
 }
 
 // What a call starts from.
-pub fn start(s: State) {
+pub fn start(rt: &impl Print, s: State) -> io::Result<()> {
     let head = s.head;
     let a = s.account;
-    number(b"code ", head.code as u64);
-    number(b" area ", s.size as u64);
-    number(b" at ", head.position);
+    number(rt, "code ", head.code as u64)?;
+    number(rt, " area ", s.size as u64)?;
+    number(rt, " at ", head.position)?;
     if s.off != 0 {
-        number(b" word off by ", s.off as u64);
+        number(rt, " word off by ", s.off as u64)?;
     }
-    account(a);
-    text(b":");
+    account(rt, a)?;
+    text(rt, ":")
 }
 
 // The refusal number that a call is to get.
-pub fn refusal(n: u64) {
-    number(b" gets ", n);
+pub fn refusal(rt: &impl Print, n: u64) -> io::Result<()> {
+    number(rt, " gets ", n)
 }
 
 // The position and the mark that a call is to leave.
-pub fn place(position: u64, mark: u64) {
-    number(b", at ", position);
-    number(b" mark ", mark);
+pub fn place(rt: &impl Print, position: u64, mark: u64) -> io::Result<()> {
+    number(rt, ", at ", position)?;
+    number(rt, " mark ", mark)
 }
 
 // The end of a line.
-pub fn end(ok: bool) {
-    if ok {
-        text(b" ok\n");
-    } else {
-        text(b" wrong\n");
-    }
+pub fn end(rt: &impl Print, ok: bool) -> io::Result<()> {
+    let word = if ok { "ok" } else { "wrong" };
+    println!(rt; " {word}")
 }

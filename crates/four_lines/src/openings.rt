@@ -4,6 +4,7 @@ use crate::lines;
 use crate::state::State;
 use engine::Head;
 use sharing::{ShareAccount, ShareAnswer, ShareDone};
+use std::io;
 
 // What a call hands back that is not made.
 pub fn not_shared(head: Head, account: ShareAccount) -> ShareDone {
@@ -39,10 +40,10 @@ fn open_in(
 }
 
 // The line of an opening so far.
-fn line(from: State, shares: [u64; 4], refusal: u64) {
-    lines::start(from);
-    lines::shares(b" opening ", shares);
-    lines::refusal(refusal);
+fn line(rt: &impl Print, from: State, shares: [u64; 4], refusal: u64) -> io::Result<()> {
+    lines::start(rt, from)?;
+    lines::shares(rt, " opening ", shares)?;
+    lines::refusal(rt, refusal)
 }
 
 // Whether an opening gets this number, hands back this account and leaves the rest.
@@ -65,19 +66,24 @@ fn is_right(from: State, shares: [u64; 4], refusal: u64, to: ShareAccount) -> bo
 }
 
 // An opening that is accepted. Gives what it is to leave.
-pub fn opens(from: State, shares: [u64; 4], to: ShareAccount) -> State {
+pub fn opens(
+    rt: &impl Print,
+    from: State,
+    shares: [u64; 4],
+    to: ShareAccount,
+) -> io::Result<State> {
     let ok = is_right(from, shares, 0, to);
-    line(from, shares, 0);
-    lines::text(b",");
-    lines::account(to);
-    lines::end(ok);
-    crate::state::with_account(from, to)
+    line(rt, from, shares, 0)?;
+    lines::text(rt, ",")?;
+    lines::account(rt, to)?;
+    lines::end(rt, ok)?;
+    Ok(crate::state::with_account(from, to))
 }
 
 // An opening that is refused.
-pub fn no_opening(from: State, shares: [u64; 4], refusal: u64) {
+pub fn no_opening(rt: &impl Print, from: State, shares: [u64; 4], refusal: u64) -> io::Result<()> {
     let account = from.account;
     let ok = is_right(from, shares, refusal, account);
-    line(from, shares, refusal);
-    lines::end(ok);
+    line(rt, from, shares, refusal)?;
+    lines::end(rt, ok)
 }

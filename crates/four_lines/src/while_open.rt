@@ -7,6 +7,7 @@ use crate::{engine_calls, lines};
 use engine::Head;
 use engine::answers::Done;
 use sharing::ShareAccount;
+use std::io;
 
 // A call with the first of these words as area.
 fn call_in(
@@ -47,28 +48,35 @@ pub fn called(shared: bool, from: State, call: Call) -> Left {
 }
 
 // The name of a call and its number.
-fn name(call: Call) {
+fn name(rt: &impl Print, call: Call) -> io::Result<()> {
     match call {
-        Call::SetUp(code) => lines::number(b" set up with code ", code as u64),
-        Call::Load(n) => lines::number(b" load of bytes ", n as u64),
-        Call::Move(n) => lines::number(b" move by bytes ", n as u64),
-        Call::TestLoad(seed) => lines::number(b" test load from seed ", seed as u64),
-        Call::EncipherVolume(n) => lines::number(b" encipher volume of bytes ", n as u64),
-        Call::Cipher(n) => lines::number(b" cipher of bytes ", n as u64),
+        Call::SetUp(code) => lines::number(rt, " set up with code ", code as u64),
+        Call::Load(n) => lines::number(rt, " load of bytes ", n as u64),
+        Call::Move(n) => lines::number(rt, " move by bytes ", n as u64),
+        Call::TestLoad(seed) => lines::number(rt, " test load from seed ", seed as u64),
+        Call::EncipherVolume(n) => lines::number(rt, " encipher volume of bytes ", n as u64),
+        Call::Cipher(n) => lines::number(rt, " cipher of bytes ", n as u64),
     }
 }
 
 // A call that is to get this number and to leave this position and mark.
-pub fn calls(from: State, call: Call, refusal: u64, position: u64, mark: u64) {
+pub fn calls(
+    rt: &impl Print,
+    from: State,
+    call: Call,
+    refusal: u64,
+    position: u64,
+    mark: u64,
+) -> io::Result<()> {
     let account = from.account;
     let got = called(true, from, call);
     let own = called(false, from, call);
     let there = (got.refusal == refusal) & left_at(got, account, position, mark);
     let stays = (refusal != 0) & same_left(got, kept(from, refusal));
     let goes = (refusal == 0) & same_left(got, own);
-    lines::start(from);
-    name(call);
-    lines::refusal(refusal);
-    lines::place(position, mark);
-    lines::end(there & (stays | goes));
+    lines::start(rt, from)?;
+    name(rt, call)?;
+    lines::refusal(rt, refusal)?;
+    lines::place(rt, position, mark)?;
+    lines::end(rt, there & (stays | goes))
 }
