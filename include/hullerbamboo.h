@@ -215,7 +215,7 @@ uint64_t hc_set_up(struct hc_head *head, uint32_t code, const uint8_t *key, size
 /* Cipher: replaces each lent byte by its exclusive or with the keystream byte, and advances by byte_count. The same call enciphers and deciphers.
  * Any number of bytes may be given at a time, also 0, which changes nothing. A call of one byte or more makes the mark the larger of the mark and the
  * position at its end.
- * Refusals: 1, 4, 5, 13, 6. Stack: 208 bytes. */
+ * Refusals: 1, 4, 5, 13, 6. Stack: 240 bytes. */
 uint64_t hc_cipher(struct hc_head *head, uint32_t *area, size_t area_words, uint8_t *bytes, size_t byte_count);
 
 /* Move: takes head and tables forward, or back where distance is negative, by a number of bytes; the mark stays. The time grows with the distance.
@@ -230,7 +230,7 @@ struct hc_length hc_checkpoint_length(uint32_t code, uint64_t position);
 
 /* Write: puts the checkpoint of head and area at the start of the lent bytes and returns its length; later bytes, area and head stay. Lend at least
  * the length that hc_checkpoint_length gives for the head's code and position. A checkpoint does not hold the mark.
- * Refusals: 1, 4, 5, 13, 8. Stack: 208 bytes. */
+ * Refusals: 1, 4, 5, 13, 8. Stack: 72 bytes. */
 struct hc_length hc_write(struct hc_head *head, const uint32_t *area, size_t area_words, uint8_t *lent, size_t lent_bytes);
 
 /* Recover: fills the buffers with the key and the IV from which the tables came. Area and head stay. It takes every step back to set up.
@@ -240,7 +240,7 @@ uint64_t hc_recover(struct hc_head *head, const uint32_t *area, size_t area_word
 /* Load: fills area and head from a checkpoint, whatever the head was, and returns its key and IV. The mark becomes the loaded position. The area must
  * already have the size for the checkpoint's cipher. string is the checkpoint and no byte more. Before it accepts, it takes every step back to set
  * up and checks the key and IV that it finds there.
- * Refusals: 9, 1, 4, then for the position 10 or 9, then 5, 11, 12. Stack: 8,736 bytes. */
+ * Refusals: 9, 1, 4, then for the position 10 or 9, then 5, 11, 12. Stack: 8,816 bytes. */
 struct hc_words hc_load(struct hc_head *head, uint32_t *area, size_t area_words, const uint8_t *string, size_t string_bytes);
 
 /* Same run: whether two checkpoints belong to one run, which means that they have the same key and IV, at whatever positions. It is yes exactly where
@@ -248,7 +248,7 @@ struct hc_words hc_load(struct hc_head *head, uint32_t *area, size_t area_words,
  * and no byte more. No area and no head is needed. A run that was set up again with the same key and IV can't be told from the first. For each
  * checkpoint it takes every step back to set up, as hc_load does, so that the time grows with both positions.
  * Refusals: those of hc_load but for 4, which is about an area: 9, 1, then for the position 10 or 9, then 5, 11, 12, for first; then these for
- * second; then 23 where the two are of different ciphers. hc_same_run(first, first) tells whether it was first that was refused. Stack: 8,640 bytes.
+ * second; then 23 where the two are of different ciphers. hc_same_run(first, first) tells whether it was first that was refused. Stack: 8,616 bytes.
  *
  * Whether a spare board's checkpoint is of the same run as the box's:
  *
@@ -271,7 +271,7 @@ struct hc_yes_or_no hc_same_run(const uint8_t *first, size_t first_bytes, const 
  * this code, key and IV at the position that the words lead to, which is never over 260,095. With a count of 0 it is the set up alone. Wherever this
  * page speaks of a set up, a test load is one. Give it a key and an IV with which nothing else is enciphered, for it uses keystream from position 0
  * on and leaves some of it on the stack.
- * Refusals: 17 where the seed is 0, 18 where count is over HC_TEST_CALLS, then 1, 2, 3, 4 as hc_set_up. Stack: 736 bytes.
+ * Refusals: 17 where the seed is 0, 18 where count is over HC_TEST_CALLS, then 1, 2, 3, 4 as hc_set_up. Stack: 816 bytes.
  *
  *     From seed 1 come 0x00042021, 0x04080601, 0x9DCCA8C5, 0x1255994F and 0x8EF917D1, cipher calls over 2, 256, 166, 253 and 146 bytes,
  *     and then 0x2C6F5BD0, a move to byte 3560: the position is 3560 and the mark 823.
@@ -289,7 +289,7 @@ struct hc_count hc_spent(struct hc_head *head);
 /* Write volume: puts the volume of these entries at the start of the lent bytes and returns its length; later bytes and the entries stay.
  * numbers is four times the count of entries.
  * Refusals: 16 where numbers is not a multiple of 4; 15 for more than HC_VOLUME_ENTRIES entries or a number out of its range; 8 for fewer lent
- * bytes than the volume has. Stack: 144 bytes. */
+ * bytes than the volume has. Stack: 40 bytes. */
 struct hc_length hc_write_volume(const uint32_t *entries, size_t numbers, uint8_t *lent, size_t lent_bytes);
 
 /* Read volume: puts the entries of a volume at the start of the lent list and returns their count; later elements stay. volume is the volume and no
@@ -297,7 +297,7 @@ struct hc_length hc_write_volume(const uint32_t *entries, size_t numbers, uint8_
  * Refusals, for the first number from the volume's start that is at fault: 16 where the volume ends before the number's last group, 14 where it is
  * not in its shortest form or its third group announces another (also where the volume ends there), 15 where it is out of its range (14 where it
  * earns both); then 16 for bytes after the last entry; then 8 where the list has fewer than four elements for each entry. Four times
- * HC_VOLUME_ENTRIES elements are always enough. Stack: 128 bytes. */
+ * HC_VOLUME_ENTRIES elements are always enough. Stack: 112 bytes. */
 struct hc_count hc_read_volume(const uint8_t *volume, size_t volume_bytes, uint32_t *entries, size_t numbers);
 
 /* Encipher volume: enciphers a written volume in its buffer, as hc_cipher does with these bytes: position, tables, word and mark are then those after
@@ -325,7 +325,7 @@ struct hc_rates hc_our_rates(void);
  * string and no byte more. Where it is refused, the table in use stays.
  * Refusals, for the first number from the string's start that is at fault: 24 where the string ends before the number's last group, where it is not
  * in its shortest form, where its third group announces another, or where it is out of its range; 25 where it is a product that is not above the
- * product before it (24 where it earns both); then 24 for bytes after the last pair. Stack: 88 bytes.
+ * product before it (24 where it earns both); then 24 for bytes after the last pair. Stack: 72 bytes.
  *
  * A refinery with duty on two products:
  *
@@ -339,7 +339,7 @@ uint64_t hc_load_rates(struct hc_rates *rates, const uint8_t *string, size_t str
 
 /* Volume duty: the component duty on a volume under the table of rates in use, in whole cents. volume is the volume and no byte more, and not
  * enciphered. Every table is taken as it is: under any of them the duty fits 64 bits.
- * Refusals: 16, 14, 15 as hc_read_volume. Stack: 72 bytes. */
+ * Refusals: 16, 14, 15 as hc_read_volume. Stack: 56 bytes. */
 struct hc_duty hc_volume_duty(const struct hc_rates *rates, const uint8_t *volume, size_t volume_bytes);
 
 /* Volume soundness: whether a string is a volume (sound), the beginning of one and no volume itself (cut), or neither (hopeless), and then the length
@@ -348,7 +348,7 @@ struct hc_duty hc_volume_duty(const struct hc_rates *rates, const uint8_t *volum
  * is such a byte. The empty string is cut. A string with bytes after its last entry is hopeless at the first of them. volume is the string and no
  * byte more, and not enciphered. Where the answer is HC_CUT, hc_read_volume refuses with 16; a string that it refuses with 14 or 15 is hopeless, and
  * one that it refuses with 16 may be cut or hopeless. The time grows with volume_bytes.
- * Refusals: none. Stack: 32 bytes.
+ * Refusals: none. Stack: 24 bytes.
  *
  *     0x01 0x00 0x64 0x90           cut: one entry, no minutes, 100 litres, the first group of a ratio
  *     0x01 0x00 0x64 0x90 0x4F      hopeless at 5: ratio 10,128 is out of its range
@@ -357,7 +357,7 @@ struct hc_duty hc_volume_duty(const struct hc_rates *rates, const uint8_t *volum
 struct hc_soundness hc_volume_soundness(const uint8_t *volume, size_t volume_bytes);
 
 /* Check recordings: whether hc_compare_recordings takes this pair. blender and gauge are a volume each and no byte more, and not enciphered.
- * Refusals: 16, 14, 15 as hc_read_volume for the blender's recording, then 16, 14, 15 for the gauge's. Stack: 96 bytes. */
+ * Refusals: 16, 14, 15 as hc_read_volume for the blender's recording, then 16, 14, 15 for the gauge's. Stack: 80 bytes. */
 uint64_t hc_check_recordings(const uint8_t *blender, size_t blender_bytes, const uint8_t *gauge, size_t gauge_bytes);
 
 /* Compare recordings: goes through both recordings of one run, entry by entry, up to the first place where they don't have the same entry, and
@@ -366,7 +366,7 @@ uint64_t hc_check_recordings(const uint8_t *blender, size_t blender_bytes, const
  *     the recording that goes on, where the other has ended;
  *     else the one whose ratio there is the smaller, and the blender's where the ratios are equal;
  *     the blender's, where both have ended: its empty end, so that from is blender_bytes and length is 0.
- * Refusals: those of hc_check_recordings, which returns the number; here all three fields are then 0. Stack: 272 bytes.
+ * Refusals: those of hc_check_recordings, which returns the number; here all three fields are then 0. Stack: 240 bytes.
  *
  * Where the recordings first differ:
  *
