@@ -2,17 +2,20 @@
 #![tactic(auto)]
 
 ghost use Rattle.std.specs.Prelude.{◌≡◌, ◌≤◌};
+ghost use Rattle.laws.specs.Result.{refuse◌without◌};
+ghost use Rattle.refusal.specs.Told.{told};
 ghost use Rattle.cipher.specs.Numbers as Numbers;
-ghost use Rattle.cipher.specs.Answers.{cipher_is};
 
-#[derive(Clone, Copy)]
+use refusal::Refusal;
+
+#[derive(Clone, Copy, Debug, PartialEq, Eq)]
 pub enum Cipher {
     Hc128,
     Hc256,
 }
 
 // The numbers of a cipher: its code, the words of a table (T), the bytes of a key and of an IV, and the words of the expansion.
-#[derive(Clone, Copy)]
+#[derive(Clone, Copy, Debug, PartialEq, Eq)]
 pub struct Row {
     pub code: u8,
     pub table: usize,
@@ -38,81 +41,73 @@ pub const ROWS: [Row; 2] = [
     },
 ];
 
-// The row of a cipher.
-pub fn row_of(cipher: Cipher) -> Row
-    ensures { result ≡ Numbers.row_of cipher }
-{
-    match cipher {
-        Cipher::Hc128 => ROWS[0],
-        Cipher::Hc256 => ROWS[1],
+// The cipher of a code; a code that no row has is refused.
+impl TryFrom<u32> for Cipher {
+    type Error = Refusal;
+
+    ghost try_from_gives = { λ code answer. told answer ≡ (refuse 1 without Numbers.by_code code) };
+
+    fn try_from(code: u32) -> Result<Self, Refusal> {
+        if code == Cipher::Hc128.code() {
+            Ok(Cipher::Hc128)
+        } else if code == Cipher::Hc256.code() {
+            Ok(Cipher::Hc256)
+        } else {
+            Err(Refusal::BadCode)
+        }
     }
 }
 
-// The cipher of a code.
-#[derive(Clone, Copy)]
-pub enum Known {
-    Is(Cipher),
-    Unknown,
-}
-
-pub fn by_code(code: u32) -> Known
-    ensures { cipher_is result ≡ Numbers.by_code code }
-{
-    let first = ROWS[0];
-    if code == first.code as u32 {
-        return Known::Is(Cipher::Hc128);
+impl Cipher {
+    // The row of the cipher.
+    pub fn row(self) -> Row
+        ensures { result ≡ Numbers.row_of self }
+    {
+        match self {
+            Cipher::Hc128 => ROWS[0],
+            Cipher::Hc256 => ROWS[1],
+        }
     }
-    let second = ROWS[1];
-    if code == second.code as u32 {
-        return Known::Is(Cipher::Hc256);
+
+    // The code of the cipher.
+    pub fn code(self) -> u32
+        ensures { result ≡ Numbers.code_of self }
+    {
+        self.row().code.into()
     }
-    Known::Unknown
-}
 
-// The code of a cipher.
-pub fn code_of(cipher: Cipher) -> u32
-    ensures { result ≡ Numbers.code_of cipher }
-{
-    let row = row_of(cipher);
-    row.code as u32
-}
+    // The words of a table, T.
+    pub fn table_words(self) -> usize
+        ensures { (result ≡ Numbers.table_length self) × (512 ≤ result) × (result ≤ 1024) }
+    {
+        self.row().table
+    }
 
-// The words of a table, T.
-pub fn table_words(cipher: Cipher) -> usize
-    ensures { (result ≡ Numbers.table_length cipher) × (512 ≤ result) × (result ≤ 1024) }
-{
-    let row = row_of(cipher);
-    row.table
-}
+    // The words of a table area, 2T.
+    pub fn area_words(self) -> usize
+        ensures { (result ≡ Numbers.area_length self) × (result ≤ 2048) }
+    {
+        2 * self.row().table
+    }
 
-// The words of a table area, 2T.
-pub fn area_words(cipher: Cipher) -> usize
-    ensures { (result ≡ Numbers.area_length cipher) × (result ≤ 2048) }
-{
-    let row = row_of(cipher);
-    2 * row.table
-}
+    // The words of the expansion.
+    pub fn expansion_words(self) -> usize
+        ensures { (result ≡ Numbers.expansion_length self) × (result ≤ 2560) }
+    {
+        self.row().expansion
+    }
 
-// The words of the expansion.
-pub fn expansion_words(cipher: Cipher) -> usize
-    ensures { (result ≡ Numbers.expansion_length cipher) × (result ≤ 2560) }
-{
-    let row = row_of(cipher);
-    row.expansion
-}
+    // The bytes of a key.
+    pub fn key_bytes(self) -> usize
+        ensures { (result ≡ Numbers.key_length self) × (result ≤ 32) }
+    {
+        self.row().key
+    }
 
-// The bytes of a key.
-pub fn key_bytes(cipher: Cipher) -> usize
-    ensures { (result ≡ Numbers.key_length cipher) × (result ≤ 32) }
-{
-    let row = row_of(cipher);
-    row.key
-}
-
-// The bytes of an IV.
-pub fn iv_bytes(cipher: Cipher) -> usize
-    ensures { (result ≡ Numbers.iv_length cipher) × (result ≤ 32) }
-{
-    let row = row_of(cipher);
-    row.iv
+    // The bytes of an IV.
+    pub fn iv_bytes(self) -> usize
+        ensures { (result ≡ Numbers.iv_length self) × (result ≤ 32) }
+    {
+        self.row().iv
+    }
 }
