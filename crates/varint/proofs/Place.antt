@@ -7,8 +7,10 @@ use native.Mathlib.Numerals.{add-one}
 use native.Mathlib.Omega.{arith}
 use lib.ListN.{length, get_or, drop}
 use lib.Seq.{drop-cons, drop-length}
-use Rattle.varint.specs.declared.Read.{Read}
-use Rattle.varint.specs.declared.Read.TheVariants as read
+use Rattle.std.specs.Prelude.{Result, Ok, Err}
+use Rattle.varint.specs.declared.Found.{Found}
+use Rattle.varint.specs.declared.NoNumber.{NoNumber}
+use Rattle.varint.specs.declared.NoNumber.TheVariants as no
 use Rattle.varint.specs.Number.{Reading, is, ended, malformed, before, read_groups, read_number}
 use Rattle.varint.specs.Place.{reading_of, next_within}
 use Rattle.varint.proofs.Reading.{read_none, read_end, read_last, read_small, read_more}
@@ -37,7 +39,7 @@ pub below_next : (value weight d : ℕ) → value < weight → d < 128 → value
 below_next value weight d l h = let m : weight * d ≤ weight * 127 = mul-le-mul_left weight (omega arith) in omega arith
 
 -- what `read_number` ensures of its answer
-abbrev Ensured : List ℕ → ℕ → ℕ → Read → Type 0
+abbrev Ensured : List ℕ → ℕ → ℕ → Result (Found ℕ) NoNumber → Type 0
 Ensured s at most r = (reading_of s r ≡ read_number most (drop at s)) × next_within at (length s) r
 
 module _ (s : List ℕ) (at most : ℕ) where
@@ -72,7 +74,7 @@ module _ (s : List ℕ) (at most : ℕ) where
         let n = below_next value weight d c.below m in
         (omega arith, omega arith)
 
-    pub none_left : most ≤ k → Ensured s at most read.Malformed
+    pub none_left : most ≤ k → Ensured s at most (Err no.Malformed)
     none_left l =
         let e : most - k ≡ 0 = omega (arith, c.left) in
         (sym (c.reading_is ∙ rw (e, read_none least (drop next s))), tt)
@@ -81,7 +83,7 @@ module _ (s : List ℕ) (at most : ℕ) where
       one_more : most - k ≡ suc (most - (k + 1))
       one_more = omega arith
 
-      pub ends : next ≡ length s → Ensured s at most read.Ended
+      pub ends : next ≡ length s → Ensured s at most (Err no.Ended)
       ends e = (sym (c.reading_is ∙ rw (one_more, e, drop-length s, read_end (most - (k + 1)) least)), tt)
 
       module _ (i : next < length s) where
@@ -91,10 +93,10 @@ module _ (s : List ℕ) (at most : ℕ) where
         at_group : read_number most (drop at s) ≡ onto value weight (read_groups (suc (most - (k + 1))) least (b ∷ drop (next + 1) s))
         at_group = c.reading_is ∙ ap (λ (j : ℕ). onto value weight (read_groups j least (drop next s))) one_more ∙ rw (drop-cons s next 0 i, add-one next)
 
-        pub last_small : b < 128 → b < least → Ensured s at most read.Malformed
+        pub last_small : b < 128 → b < least → Ensured s at most (Err no.Malformed)
         last_small h m = (sym (at_group ∙ rw (read_small (most - (k + 1)) least b (drop (next + 1) s) h m)), tt)
 
-        pub last_group : b < 128 → least ≤ b → Ensured s at most (read.Number (value + weight * b) (next + 1))
+        pub last_group : b < 128 → least ≤ b → Ensured s at most (Ok (record { value = value + weight * b; next = next + 1 }))
         last_group h m = (
           sym (at_group ∙ rw (read_last (most - (k + 1)) least b (drop (next + 1) s) h m)),
           (omega (arith, c.after), omega arith),

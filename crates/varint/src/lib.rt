@@ -47,16 +47,22 @@ pub fn count_groups(n: u64) -> usize
     1 + count_groups(n / 128)
 }
 
-// What a reader finds: a number and the place after it, the string's end before the last group, or a number that is malformed.
-#[derive(Clone, Copy)]
-pub enum Read {
-    Number { value: u64, next: usize },
+// What was found in a string, and the place after it.
+#[derive(Clone, Copy, Debug, PartialEq, Eq)]
+pub struct Found<T> {
+    pub value: T,
+    pub next: usize,
+}
+
+// Why there is no number: the string ends before its last group, or the number is malformed.
+#[derive(Clone, Copy, Debug, PartialEq, Eq)]
+pub enum NoNumber {
     Ended,
     Malformed,
 }
 
 // The number from place `at` on, of at most `most` groups. It is a loop and no recursion, for the speed of reading a volume.
-pub fn read_number(string: &[u8], at: usize, most: u32) -> Read
+pub fn read_number(string: &[u8], at: usize, most: u32) -> Result<Found<u64>, NoNumber>
     requires { (at ≤ length string.now) × (most ≤ 9) }
     ensures { (reading_of string.now result ≡ Number.read_number most (drop at string.now))
         × next_within at (length string.now) result }
@@ -64,27 +70,24 @@ pub fn read_number(string: &[u8], at: usize, most: u32) -> Read
     let mut value: u64 = 0;
     let mut weight: u64 = 1;
     let mut least: u8 = 0;
-    let mut next = at;
-    let mut k = 0;
-    while k < most {
+    for k in 0..most {
+        let next = at + k as usize;
         if next == string.len() {
-            return Read::Ended;
+            return Err(NoNumber::Ended);
         }
         let b = string[next];
         if b < 128 {
             if b < least {
-                return Read::Malformed;
+                return Err(NoNumber::Malformed);
             }
-            return Read::Number {
+            return Ok(Found {
                 value: value + weight * (b as u64),
                 next: next + 1,
-            };
+            });
         }
-        value = value + weight * ((b as u64) - 128);
-        weight = 128 * weight;
+        value += weight * ((b as u64) - 128);
+        weight *= 128;
         least = 1;
-        next += 1;
-        k += 1;
     }
-    Read::Malformed // also where the string ends here
+    Err(NoNumber::Malformed) // also where the string ends here
 }
