@@ -58,7 +58,7 @@ pub fn next_five(cipher: Cipher, i: usize, x: Indices, m: usize) -> Indices
     if m != 0 {
         return carry_unwrapped(x);
     }
-    let y = carry(cipher::table_words(cipher), x);
+    let y = carry(cipher.table_words(), x);
     if y.j == 0 {
         return tables::indices_at(cipher, i + 1);
     }
@@ -71,7 +71,7 @@ pub fn before_wrap(cipher: Cipher, x: Indices) -> usize
     ensures { result ≡ Runs.before_wrap (table_length cipher) x }
 {
     if x.minus12 < x.plus1 {
-        return cipher::table_words(cipher) - 1 - x.plus1;
+        return cipher.table_words() - 1 - x.plus1;
     }
     0
 }
@@ -81,7 +81,7 @@ pub fn step(cipher: Cipher, p: bool, area: &mut [u32], x: Indices)
     requires { (length area.old ≡ area_length cipher) × Within (table_length cipher) x }
     ensures { area.new ≡ Steps.step_with cipher p area.old x }
 {
-    let a = tables::start_a(cipher::table_words(cipher), p);
+    let a = tables::start_a(cipher.table_words(), p);
     let j = a + x.j;
     let minus3 = a + x.minus3;
     let minus10 = a + x.minus10;
@@ -103,7 +103,7 @@ pub fn output(cipher: Cipher, p: bool, area: &[u32], x: Indices) -> u32
     requires { (length area.now ≡ area_length cipher) × Within (table_length cipher) x }
     ensures { result ≡ Steps.output_with cipher p area.now x }
 {
-    let a = tables::start_a(cipher::table_words(cipher), p);
+    let a = tables::start_a(cipher.table_words(), p);
     let j = a + x.j;
     let minus12 = a + x.minus12;
     functions::filter(cipher, area, p, area[minus12]) ^ area[j]
@@ -124,7 +124,7 @@ fn word_256(p: bool, area: &mut [u32], x: Indices) -> u32
     requires { (length area.old ≡ area_length Hc256) × Within (table_length Hc256) x }
     ensures { Runs.Taken Hc256 p area.old x area.new result }
 {
-    let t = cipher::table_words(Cipher::Hc256);
+    let t = Cipher::Hc256.table_words();
     let a = tables::start_a(t, p);
     let b = t - a;
     let j = a + x.j;

@@ -14,7 +14,7 @@ use cipher::Cipher;
 pub fn length_of(cipher: Cipher, position: u64) -> usize
     ensures { result ≡ Checkpoint.length_of cipher position }
 {
-    1 + varint::count_groups(position) + 4 * cipher::area_words(cipher)
+    1 + varint::count_groups(position) + 4 * cipher.area_words()
 }
 
 // Writes a word from place `at` on, least significant byte first.
@@ -49,7 +49,7 @@ pub fn write_checkpoint(cipher: Cipher, position: u64, area: &[u32], lent: &mut 
     requires { (length area.now ≡ area_length cipher) × (Checkpoint.length_of cipher position ≤ length lent.old) }
     ensures { lent.new ≡ put_first (Checkpoint.layout cipher position area.now) lent.old }
 {
-    let row = cipher::row_of(cipher);
+    let row = cipher.row();
     lent[0] = row.code;
     let at = varint::write_number(position, lent, 1);
     put_words(lent, at, area);

@@ -46,13 +46,13 @@ pub fn set_up_check(code: u32, key: usize, iv: usize, size: usize) -> Checked
     let Known::Is(c) = known else {
         return refused(1);
     };
-    if key != cipher::key_bytes(c) {
+    if key != c.key_bytes() {
         return refused(2);
     }
-    if iv != cipher::iv_bytes(c) {
+    if iv != c.iv_bytes() {
         return refused(3);
     }
-    if size != cipher::area_words(c) {
+    if size != c.area_words() {
         return refused(4);
     }
     passed(c)
@@ -66,7 +66,7 @@ fn ready(code: u32, position: u64, size: usize) -> Checked
     let Known::Is(c) = known else {
         return refused(1);
     };
-    if size != cipher::area_words(c) {
+    if size != c.area_words() {
         return refused(4);
     }
     if LIMIT < position {
@@ -222,7 +222,7 @@ fn beginning_in(cipher: Cipher, string: &[u8]) -> Beginning
         return no_beginning(5);
     }
     let next = read.next;
-    if string.len() - next != 4 * cipher::area_words(cipher) {
+    if string.len() - next != 4 * cipher.area_words() {
         return no_beginning(11);
     }
     Beginning {
@@ -243,7 +243,7 @@ pub fn load_check(string: &[u8], size: usize) -> Beginning
         return no_beginning(refusal);
     }
     let c = checked.cipher;
-    if size != cipher::area_words(c) {
+    if size != c.area_words() {
         return no_beginning(4);
     }
     beginning_in(c, string)

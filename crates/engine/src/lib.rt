@@ -272,9 +272,9 @@ impl Head {
         }
         let w = found.words;
         checkpoint::read_words(string, next, area);
-        let n = cipher::key_bytes(c) / 4;
-        let m = cipher::iv_bytes(c) / 4;
-        let code = cipher::code_of(c);
+        let n = c.key_bytes() / 4;
+        let m = c.iv_bytes() / 4;
+        let code = c.code();
         let key = recovery::eight_words(w, 0, n);
         let iv = recovery::eight_words(w, 8, m);
         let word = steps::word_at(c, area, position as usize);
@@ -305,13 +305,13 @@ impl Head {
             };
         }
         let c = checked.cipher;
-        if key.len() != cipher::key_bytes(c) {
+        if key.len() != c.key_bytes() {
             return Done {
                 refusal: 2,
                 head: self,
             };
         }
-        if iv.len() != cipher::iv_bytes(c) {
+        if iv.len() != c.iv_bytes() {
             return Done {
                 refusal: 3,
                 head: self,

@@ -155,7 +155,7 @@ pub fn word_on(code: u32, position: u64, area: &[u32]) -> u32 {
     let Known::Is(c) = known else {
         return ANY;
     };
-    if area.len() != cipher::area_words(c) {
+    if area.len() != c.area_words() {
         return ANY;
     }
     if Head::LIMIT < position {

@@ -105,7 +105,7 @@ struct Job {
 fn refuse_length(rt: &(impl Env + Eprint), i: usize, refusal: u64, c: Cipher) {
     let mut buffer = [0u8; 4096];
     let word = words::word(rt, i, &mut buffer);
-    say::refused_length(rt, word, refusal, cipher::key_bytes(c));
+    say::refused_length(rt, word, refusal, c.key_bytes());
 }
 
 // Says that the engine refused a job: the key, the IV or the position.
@@ -126,7 +126,7 @@ fn cipher_log(rt: &impl Runtime, job: Job, key: &[u8], iv: &[u8], area: &mut [u3
     let c = job.cipher;
     let position = job.position;
     let progress = job.progress;
-    let done = lab::set_up_at(cipher::code_of(c), key, iv, area, position);
+    let done = lab::set_up_at(c.code(), key, iv, area, position);
     let refusal = done.refusal;
     if refusal != 0 {
         refuse_job(rt, job, refusal);
@@ -153,7 +153,7 @@ fn write_checkpoint(
 ) {
     let c = job.cipher;
     let position = job.position;
-    let done = lab::write_at(cipher::code_of(c), key, iv, area, position, lent);
+    let done = lab::write_at(c.code(), key, iv, area, position, lent);
     let answer = done.answer;
     let refusal = answer.refusal;
     if refusal != 0 {
@@ -189,7 +189,7 @@ fn with_area(rt: &impl Runtime, job: Job, key: &[u8], iv: &[u8]) {
 fn with_iv(rt: &impl Runtime, job: Job, key: &[u8]) {
     let mut iv = [0u8; 33];
     let c = job.cipher;
-    let got = files::read_word(rt, 4, cipher::key_bytes(c), &mut iv);
+    let got = files::read_word(rt, 4, c.key_bytes(), &mut iv);
     let ok = got.ok;
     let n = got.n;
     if ok {
@@ -201,7 +201,7 @@ fn with_iv(rt: &impl Runtime, job: Job, key: &[u8]) {
 fn with_key(rt: &impl Runtime, job: Job) {
     let mut key = [0u8; 33];
     let c = job.cipher;
-    let got = files::read_word(rt, 3, cipher::key_bytes(c), &mut key);
+    let got = files::read_word(rt, 3, c.key_bytes(), &mut key);
     let ok = got.ok;
     let n = got.n;
     if ok {

@@ -8,7 +8,7 @@ pub fn area_part(cipher: Cipher, area: &[u32]) -> usize
     requires { 2048 ≤ length area.now }
     ensures { result ≤ length area.now }
 {
-    cipher::area_words(cipher)
+    cipher.area_words()
 }
 
 // The bytes of a checkpoint at a position, none where there is no such checkpoint.
@@ -16,7 +16,7 @@ pub fn checkpoint_part(cipher: Cipher, position: u64, lent: &[u8]) -> usize
     requires { 8197 ≤ length lent.now }
     ensures { result ≤ length lent.now }
 {
-    let answer = engine::checkpoint_length(cipher::code_of(cipher), position);
+    let answer = engine::checkpoint_length(cipher.code(), position);
     answer.length
 }
 
@@ -25,5 +25,5 @@ pub fn key_part(cipher: Cipher, key: &[u8]) -> usize
     requires { 32 ≤ length key.now }
     ensures { result ≤ length key.now }
 {
-    cipher::key_bytes(cipher)
+    cipher.key_bytes()
 }

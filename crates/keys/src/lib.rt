@@ -22,7 +22,7 @@ fn word_at(b: &[u8], k: usize) -> u32
 fn key_words(cipher: Cipher) -> usize
     ensures { (result ≡ key_length cipher / 4) × (0 < result) × (result ≤ 8) × (4 * result ≡ key_length cipher) × (4 * result ≡ iv_length cipher) }
 {
-    let row = cipher::row_of(cipher);
+    let row = cipher.row();
     row.key / 4
 }
 

@@ -71,10 +71,10 @@ pub fn cipher_code(word: &[u8]) -> u32
     ensures { result ≡ Words.cipher_code word.now }
 {
     if same(word, b"hc128") {
-        return cipher::code_of(Cipher::Hc128);
+        return Cipher::Hc128.code();
     }
     if same(word, b"hc256") {
-        return cipher::code_of(Cipher::Hc256);
+        return Cipher::Hc256.code();
     }
     0
 }
@@ -120,7 +120,7 @@ pub fn cipher_of(string: &[u8]) -> Cipher
     if string.len() == 0 {
         return Cipher::Hc256;
     }
-    if string[0] as u32 == cipher::code_of(Cipher::Hc128) {
+    if string[0] as u32 == Cipher::Hc128.code() {
         return Cipher::Hc128;
     }
     Cipher::Hc256

@@ -45,7 +45,7 @@ fn undo_in(cipher: Cipher, position: usize, area: &[u32], scratch: &mut [u32]) -
     requires { (length area.now ≡ area_length cipher) × (length scratch.old ≡ 2048) × (position < 2 ^ 63) }
     ensures { FoundAt cipher area.now position result }
 {
-    let n = cipher::area_words(cipher);
+    let n = cipher.area_words();
     undo_copy(cipher, position, area, &mut scratch[..n])
 }
 
@@ -84,7 +84,7 @@ fn undo_string_in(
     requires { (length scratch.old ≡ 2048) × (from + 4 * area_length cipher ≡ length string.now) × (position < 2 ^ 63) }
     ensures { FoundAt cipher (words (drop from string.now)) position result }
 {
-    let n = cipher::area_words(cipher);
+    let n = cipher.area_words();
     undo_string(cipher, position, string, from, &mut scratch[..n])
 }
 

@@ -56,7 +56,7 @@ fn step_back(cipher: Cipher, area: &mut [u32], p: bool, k: usize, next: u32) -> 
 fn index(cipher: Cipher, i: usize) -> usize
     ensures { (result ≡ i % table_length cipher) × (result < table_length cipher) }
 {
-    i % cipher::table_words(cipher)
+    i % cipher.table_words()
 }
 
 // How many steps from step i on are a run.
@@ -67,7 +67,7 @@ pub fn run_from(cipher: Cipher, i: usize) -> usize
     if j < 12 {
         return 0;
     }
-    cipher::table_words(cipher) - 1 - j
+    cipher.table_words() - 1 - j
 }
 
 // How many steps before step i are a run.

@@ -106,7 +106,7 @@ pub fn same_run(first: &[u8], second: &[u8]) -> YesOrNo
     }
     let c = a.cipher;
     let d = b.cipher;
-    if cipher::code_of(c) != cipher::code_of(d) {
+    if c.code() != d.code() {
         return refused(23);
     }
     let v = a.words;

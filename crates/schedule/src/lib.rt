@@ -58,7 +58,7 @@ fn unexpand(w: [u32; 16], i: usize, n: usize) -> [u32; 16]
 fn half_table(cipher: Cipher) -> usize
     ensures { Window.IsHalf cipher result }
 {
-    cipher::table_words(cipher) / 2
+    cipher.table_words() / 2
 }
 
 // Lays sixteen words at the start of others.
@@ -159,7 +159,7 @@ pub fn fill(cipher: Cipher, w: [u32; 16], area: &mut [u32])
 {
     let half = half_table(cipher);
     let v = expand_into(w, 0, half - 16, area);
-    expand_into(v, half - 16, cipher::expansion_words(cipher) - half, area);
+    expand_into(v, half - 16, cipher.expansion_words() - half, area);
 }
 
 // Whether all of the area is the expansion of the words that it leads back to: from the seventeenth on, each is made of those before it.

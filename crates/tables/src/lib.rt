@@ -25,7 +25,7 @@ pub struct Indices {
 pub fn indices_at(cipher: Cipher, i: usize) -> Indices
     ensures { (result ≡ Area.indices_at (table_length cipher) i) × Within (table_length cipher) result }
 {
-    let below = cipher::table_words(cipher) - 1;
+    let below = cipher.table_words() - 1;
     let j = i & below;
     Indices {
         j: j,
@@ -40,7 +40,7 @@ pub fn indices_at(cipher: Cipher, i: usize) -> Indices
 pub fn changes_p(cipher: Cipher, i: usize) -> bool
     ensures { result ≡ Area.changes_p (table_length cipher) i }
 {
-    i & cipher::table_words(cipher) == 0
+    i & cipher.table_words() == 0
 }
 
 // Where the table that changes begins, for tables of t words, where p tells whether P changes.
@@ -54,7 +54,7 @@ pub fn start_a(t: usize, p: bool) -> usize
 pub fn place(cipher: Cipher, i: usize) -> usize
     ensures { (result ≡ Step.place cipher i) × (result < area_length cipher) }
 {
-    i % cipher::area_words(cipher)
+    i % cipher.area_words()
 }
 
 // The word w with the feedback of step i put on it, or taken off where `back` holds.
@@ -62,7 +62,7 @@ pub fn with_feedback(cipher: Cipher, back: bool, area: &[u32], i: usize, w: u32)
     requires { length area.now ≡ area_length cipher }
     ensures { result ≡ put back w (Step.feedback cipher area.now i) }
 {
-    let t = cipher::table_words(cipher);
+    let t = cipher.table_words();
     let p = changes_p(cipher, i);
     let a = start_a(t, p);
     let at = indices_at(cipher, i);
@@ -86,7 +86,7 @@ pub fn filter(cipher: Cipher, area: &[u32], i: usize) -> u32
     requires { length area.now ≡ area_length cipher }
     ensures { result ≡ Step.filter cipher area.now i }
 {
-    let t = cipher::table_words(cipher);
+    let t = cipher.table_words();
     let p = changes_p(cipher, i);
     let a = start_a(t, p);
     let at = indices_at(cipher, i);

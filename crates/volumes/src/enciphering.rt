@@ -54,7 +54,7 @@ fn word_on(code: u32, position: u64, area: &[u32]) -> u32 {
     let Known::Is(c) = known else {
         return 0;
     };
-    if area.len() != cipher::area_words(c) {
+    if area.len() != c.area_words() {
         return 0;
     }
     if Head::LIMIT < position {
