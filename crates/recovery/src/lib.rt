@@ -4,10 +4,9 @@
 ghost use Rattle.std.specs.Prelude.{◌≡◌, ◌++◌, ◌+◌, ◌-◌, ◌*◌, ◌^◌, ◌≤◌, ◌<◌, length, take, drop, replicate};
 ghost use Rattle.word.specs.Bytes.{words};
 ghost use Rattle.cipher.specs.Numbers.{area_length};
-ghost use Rattle.recovery.specs.Recovery.{FoundAt};
+ghost use Rattle.recovery.specs.Recovery.{found_at};
 
 use cipher::Cipher;
-use schedule::Found;
 
 // Copies words into a slice of the same length.
 fn copy_words(from: &[u32], to: &mut [u32])
@@ -22,9 +21,9 @@ fn copy_words(from: &[u32], to: &mut [u32])
 }
 
 // The sixteen words that the tables at a position lead back to; the area is used up.
-fn undo_at(cipher: Cipher, position: usize, area: &mut [u32]) -> Found
+fn undo_at(cipher: Cipher, position: usize, area: &mut [u32]) -> Option<[u32; 16]>
     requires { (length area.old ≡ area_length cipher) × (position < 2 ^ 63) }
-    ensures { FoundAt cipher area.old position result }
+    ensures { result ≡ found_at cipher area.old position }
 {
     let n = steps::steps_at(position);
     steps::retreat(cipher, area, 0, n);
@@ -32,27 +31,27 @@ fn undo_at(cipher: Cipher, position: usize, area: &mut [u32]) -> Found
 }
 
 // The sixteen words that the tables at a position lead back to; the area stays, and a lent copy of its size is used up.
-fn undo_copy(cipher: Cipher, position: usize, area: &[u32], copy: &mut [u32]) -> Found
+fn undo_copy(cipher: Cipher, position: usize, area: &[u32], copy: &mut [u32]) -> Option<[u32; 16]>
     requires { (length area.now ≡ area_length cipher) × (length copy.old ≡ area_length cipher) × (position < 2 ^ 63) }
-    ensures { FoundAt cipher area.now position result }
+    ensures { result ≡ found_at cipher area.now position }
 {
     copy_words(area, copy);
     undo_at(cipher, position, copy)
 }
 
 // The sixteen words that the tables at a position lead back to; the area stays, and the start of a lent scratch that either cipher fits is used up.
-fn undo_in(cipher: Cipher, position: usize, area: &[u32], scratch: &mut [u32]) -> Found
+fn undo_in(cipher: Cipher, position: usize, area: &[u32], scratch: &mut [u32]) -> Option<[u32; 16]>
     requires { (length area.now ≡ area_length cipher) × (length scratch.old ≡ 2048) × (position < 2 ^ 63) }
-    ensures { FoundAt cipher area.now position result }
+    ensures { result ≡ found_at cipher area.now position }
 {
     let n = cipher.area_words();
     undo_copy(cipher, position, area, &mut scratch[..n])
 }
 
 // The sixteen words that the tables of an area at a position lead back to; the area stays, and the scratch is on the stack.
-pub fn of_area(cipher: Cipher, position: usize, area: &[u32]) -> Found
+pub fn of_area(cipher: Cipher, position: usize, area: &[u32]) -> Option<[u32; 16]>
     requires { (length area.now ≡ area_length cipher) × (position < 2 ^ 63) }
-    ensures { FoundAt cipher area.now position result }
+    ensures { result ≡ found_at cipher area.now position }
 {
     let mut scratch = [0u32; 2048];
     undo_in(cipher, position, area, &mut scratch)
@@ -65,9 +64,9 @@ fn undo_string(
     string: &[u8],
     from: usize,
     area: &mut [u32],
-) -> Found
+) -> Option<[u32; 16]>
     requires { (length area.old ≡ area_length cipher) × (from + 4 * area_length cipher ≡ length string.now) × (position < 2 ^ 63) }
-    ensures { FoundAt cipher (words (drop from string.now)) position result }
+    ensures { result ≡ found_at cipher (words (drop from string.now)) position }
 {
     checkpoint::read_words(string, from, area);
     undo_at(cipher, position, area)
@@ -80,18 +79,18 @@ fn undo_string_in(
     string: &[u8],
     from: usize,
     scratch: &mut [u32],
-) -> Found
+) -> Option<[u32; 16]>
     requires { (length scratch.old ≡ 2048) × (from + 4 * area_length cipher ≡ length string.now) × (position < 2 ^ 63) }
-    ensures { FoundAt cipher (words (drop from string.now)) position result }
+    ensures { result ≡ found_at cipher (words (drop from string.now)) position }
 {
     let n = cipher.area_words();
     undo_string(cipher, position, string, from, &mut scratch[..n])
 }
 
 // The sixteen words that the tables in a string, from place `from` on, lead back to at a position; the scratch is on the stack.
-pub fn of_string(cipher: Cipher, position: usize, string: &[u8], from: usize) -> Found
+pub fn of_string(cipher: Cipher, position: usize, string: &[u8], from: usize) -> Option<[u32; 16]>
     requires { (from + 4 * area_length cipher ≡ length string.now) × (position < 2 ^ 63) }
-    ensures { FoundAt cipher (words (drop from string.now)) position result }
+    ensures { result ≡ found_at cipher (words (drop from string.now)) position }
 {
     let mut scratch = [0u32; 2048];
     undo_string_in(cipher, position, string, from, &mut scratch)

@@ -1,6 +1,9 @@
 -- `is_filled` answers true of the areas that a key and an IV fill and of no others, and each has one key and one IV, which `origin` leads back to.
 -- Assumes nothing.
 use mathlib.Core.Path.{◌≡◌, refl, sym, ap, ◌∙◌}
+use Rattle.std.specs.Prelude.{Bool, Option, Some, None}
+use Rattle.std.specs.Bool.{then_some}
+use Rattle.std.specs.Option.{MatchOption}
 use mathlib.Core.Bool.{true, false, true≢false}
 use mathlib.Core.List.{List}
 use Prim.Native.Nat.{ℕ}
@@ -12,7 +15,7 @@ use Rattle.cipher.specs.declared.Cipher.{Cipher}
 use Rattle.cipher.specs.Numbers.{area_length}
 use Rattle.schedule.specs.Expansion.{filled}
 use Rattle.keys.specs.Key.{Pair, sixteen, key_of, iv_of}
-use Rattle.schedule.specs.Origin.{origin, is_filled}
+use Rattle.schedule.specs.Origin.{origin, is_filled, if_filled}
 use Rattle.schedule.proofs.Unexpansion.{origin_filled, origin_length, origin_words}
 use Rattle.keys.proofs.Sixteen.{sixteen_length, sixteen_words, sixteen_doubled, sixteen_back, key_back, iv_back, pair_back}
 
@@ -48,3 +51,15 @@ module _ (c : Cipher) (s : List ℕ) (long : length s ≡ area_length c) (ok : A
   filled_origin e =
       rw (sixteen_back (origin c s) (origin_length c s long ok) (origin_words c s long ok) c (and_right (same s (filled c (origin c s))) _ e))
       (same_equal s (filled c (origin c s)) (and_left _ _ e))
+
+-- what `if_filled` tells of an area
+module _ (c : Cipher) (s : List ℕ) where
+  if_filled_is : (b : Bool) (x : List ℕ) (o : Option (List ℕ)) → then_some b x ≡ o → MatchOption o (b ≡ false) (λ w. (b ≡ true) × (w ≡ x))
+  if_filled_is true x o e = rw (← e) (refl, refl)
+  if_filled_is false x o e = rw (← e) refl
+
+  pub some_filled : (w : List ℕ) → if_filled c s ≡ Some w → (is_filled c s ≡ true) × (w ≡ origin c s)
+  some_filled w e = if_filled_is (is_filled c s) (origin c s) (Some w) e
+
+  pub none_filled : if_filled c s ≡ None → is_filled c s ≡ false
+  none_filled e = if_filled_is (is_filled c s) (origin c s) None e

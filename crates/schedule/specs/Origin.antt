@@ -1,5 +1,6 @@
 -- The expansion undone: from the words of an area back to W0..15.
-use Rattle.std.specs.Prelude.{Bool, ◌&&◌, List, ◌∷◌, ℕ, zero, suc, ◌+◌, ◌/◌, get_or, take}
+use Rattle.std.specs.Prelude.{Bool, ◌&&◌, Option, List, ◌∷◌, ℕ, zero, suc, ◌+◌, ◌/◌, get_or, take}
+use Rattle.std.specs.Bool.{then_some}
 use Rattle.laws.specs.Same.{same}
 use Rattle.word.specs.Word.{f1, f2, ◌⊞◌, ◌⊟◌}
 use Rattle.cipher.specs.declared.Cipher.{Cipher}
@@ -23,3 +24,7 @@ origin c s = take 16 (unexpansion s (table_length c / 2))
 -- whether ALL of the area is the expansion of these sixteen words, and the words that have to stand twice do
 unfoldable pub is_filled : Cipher → List ℕ → Bool
 is_filled c s = same s (filled c (origin c s)) && doubled c (origin c s)
+
+-- the sixteen words, where they are those of a key and an IV that fill the area
+abbrev pub if_filled : Cipher → List ℕ → Option (List ℕ)
+if_filled c s = then_some (is_filled c s) (origin c s)

@@ -179,20 +179,13 @@ fn is_expansion(cipher: Cipher, area: &[u32]) -> bool
     true
 }
 
-// Sixteen words, and whether they fill all of the area and stand twice where they have to.
-#[derive(Clone, Copy)]
-pub struct Found {
-    pub words: [u32; 16],
-    pub filled: bool,
-}
-
-// The sixteen words that an area leads back to.
-pub fn origin(cipher: Cipher, area: &[u32]) -> Found
+// The sixteen words that an area leads back to, where they fill all of it and stand twice where they have to.
+pub fn origin(cipher: Cipher, area: &[u32]) -> Option<[u32; 16]>
     requires { length area.now ≡ area_length cipher }
-    ensures { (result.words ≡ Origin.origin cipher area.now) × (result.filled ≡ Origin.is_filled cipher area.now) }
+    ensures { result ≡ Origin.if_filled cipher area.now }
 {
     let half = half_table(cipher);
     let words = unexpand(sixteen_from(area, 0), 16, half);
     let filled = is_expansion(cipher, area) & keys::doubled(cipher, words);
-    Found { words, filled }
+    filled.then_some(words)
 }

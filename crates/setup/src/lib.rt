@@ -7,7 +7,6 @@ ghost use Rattle.setup.specs.SetUp as SetUp;
 ghost use Rattle.setup.specs.LedBack.{LedBack};
 
 use cipher::Cipher;
-use schedule::Found;
 
 // The area of a key and an IV.
 pub fn set_up(cipher: Cipher, key: &[u8], iv: &[u8], area: &mut [u32])
@@ -19,8 +18,8 @@ pub fn set_up(cipher: Cipher, key: &[u8], iv: &[u8], area: &mut [u32])
     last_pass::last_pass(cipher, area);
 }
 
-// The last pass undone in the area, and the sixteen words that the filled area leads back to.
-pub fn undo_set_up(cipher: Cipher, area: &mut [u32]) -> Found
+// The last pass undone in the area, and the sixteen words that fill what it leaves, if there are any.
+pub fn undo_set_up(cipher: Cipher, area: &mut [u32]) -> Option<[u32; 16]>
     requires { length area.old ≡ area_length cipher }
     ensures { LedBack cipher area.old area.new result }
 {

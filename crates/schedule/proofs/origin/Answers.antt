@@ -9,4 +9,4 @@ unfolding is_filled
 returns c =
     let w : c.unexpand-words.result ≡ origin c.args.cipher c.args.area.now =
     origin_window c.args.cipher c.args.area.now _ _ _ c.requires c.half_table-half.ensures.0 c.sixteen_from.ensures c.unexpand-words.ensures in
-    (w, rw (c.doubled.ensures, c.is_expansion.ensures, w))
+    rw (c.then_some.ensures, c.doubled.ensures, c.is_expansion.ensures, w)
