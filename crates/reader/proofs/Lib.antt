@@ -1,4 +1,1 @@
-pub mod Places
-pub mod Steps
-pub mod Method
 pub mod Positions

@@ -1,17 +1,18 @@
 -- What a caller of `read_position` knows of its answer, which is `position_of` of the string. Assumes nothing.
 use mathlib.Core.Path.{◌≡◌, refl, ◌∙◌}
-use mathlib.Core.Logic.{◌⊎◌, inl, inr, ⊎_elim}
+use mathlib.Core.Logic.{⊎_elim}
 use mathlib.Core.List.{List, [], ◌∷◌}
 use Prim.Native.Nat.{ℕ, zero, suc, ◌+◌, ◌-◌, ◌<◌, ◌≤◌}
 use native.Mathlib.Omega.{arith}
 use lib.ListN.{length, drop, length-drop}
 use lib.Seq.{drop-drop}
+use Rattle.laws.specs.Result.{Result, refused, accepted}
 use Rattle.laws.proofs.Lists.{below_or_not}
+use Rattle.varint.specs.declared.Found.{Found}
 use Rattle.varint.specs.Number.{Reading, is, ended, malformed, before, read_groups, read_number}
 use Rattle.varint.proofs.Reading.{read_none, read_end, read_last, read_small, read_more}
 use Rattle.checkpoint.specs.Checkpoint.{most_groups}
-use Rattle.reader.specs.declared.Position.{Position}
-use Rattle.reader.specs.Readings.{position_is, position_of}
+use Rattle.reader.specs.Readings.{found_in, byte_at, value_in, position_of}
 
 -- the bytes after a number are those from some place of the string on, and the number has at least one byte
 abbrev ReadFrom : List ℕ → Reading → Type 0
@@ -38,10 +39,10 @@ groups_from (suc k) least (b ∷ s) =
     (below_or_not b 128)
 
 -- what holds of a position that was read, and of both refusals, holds of the answer and of what stands after the code byte
-module _ (s : List ℕ) (P : Position → Reading → Type 0)
-    (number : (value next : ℕ) → 2 ≤ next → next ≤ length s → P (record { refusal = 0; value = value; next = next }) (is value (drop next s)))
-    (none : P (record { refusal = 9; value = 0; next = 0 }) ended) (bad : P (record { refusal = 10; value = 0; next = 0 }) malformed) where
-  by_reading : (f : Reading) → ReadFrom (drop 1 s) f → P (position_is s f) f
+module _ (s : List ℕ) (P : Result (Found ℕ) → Reading → Type 0)
+    (number : (value next : ℕ) → 2 ≤ next → next ≤ length s → P (accepted (record { value = value; next = next })) (is value (drop next s)))
+    (none : P (refused 9) ended) (bad : P (refused 10) malformed) where
+  by_reading : (f : Reading) → ReadFrom (drop 1 s) f → P (found_in s f) f
   by_reading (is value rest) (i, p, l, e) =
       let n : length (drop 1 s) ≡ length s - 1 = length-drop 1 s in
       let r : rest ≡ drop (1 + i) s = e ∙ drop-drop i 1 s in
@@ -53,38 +54,8 @@ module _ (s : List ℕ) (P : Position → Reading → Type 0)
   pub position_cases : P (position_of s) (read_number most_groups (drop 1 s))
   position_cases = by_reading (read_number most_groups (drop 1 s)) (groups_from most_groups 0 (drop 1 s))
 
-module _ (s : List ℕ) (r : Position) (e : r ≡ position_of s) where
-  -- where refusal is 0 the position was read, and the bytes after it start at next
-  pub position_accepted : r.refusal ≡ 0
-      → (read_number most_groups (drop 1 s) ≡ is r.value (drop r.next s)) × (2 ≤ r.next) × (r.next ≤ length s)
-  position_accepted =
-      rw e (position_cases s
-      (λ r f. r.refusal ≡ 0 → (f ≡ is r.value (drop r.next s)) × (2 ≤ r.next) × (r.next ≤ length s))
-      (λ value next l h z. (refl, l, h))
-      (λ z. absurd (omega arith))
-      (λ z. absurd (omega arith)))
-
-  -- else it is 9 where the string ends before the last group, and 10 where the number is malformed
-  pub position_refused : (r.refusal ≡ 0 → ⊥)
-      → ((r.refusal ≡ 9) × (read_number most_groups (drop 1 s) ≡ ended)) ⊎ ((r.refusal ≡ 10) × (read_number most_groups (drop 1 s) ≡ malformed))
-  position_refused =
-      rw e (position_cases s
-      (λ r f. (r.refusal ≡ 0 → ⊥) → ((r.refusal ≡ 9) × (f ≡ ended)) ⊎ ((r.refusal ≡ 10) × (f ≡ malformed)))
-      (λ value next l h z. absurd (z refl))
-      (λ z. inl (refl, refl))
-      (λ z. inr (refl, refl)))
-
-  -- a number gives refusal 0
-  pub position_read_lem : (value : ℕ) (rest : List ℕ) → read_number most_groups (drop 1 s) ≡ is value rest
-      → (r.refusal ≡ 0) × (r.value ≡ value) × (drop r.next s ≡ rest)
-  position_read_lem value rest =
-      rw e (position_cases s
-      (λ r f. f ≡ is value rest → (r.refusal ≡ 0) × (r.value ≡ value) × (drop r.next s ≡ rest))
-      (λ v next l h z. (refl, cc, cc))
-      (λ z. (cc, cc, cc))
-      (λ z. (cc, cc, cc)))
-
-  -- refused or not, next lies in the string
-  pub position_within : r.next ≤ length s
-  position_within =
-      rw e (position_cases s (λ r f. r.next ≤ length s) (λ value next l h. h) (omega arith) (omega arith))
+-- a string without a code byte has no position
+pub no_code : (s : List ℕ) (n : ℕ) → refused n ≡ value_in (byte_at s 0) → refused n ≡ position_of s
+unfolding read_groups
+no_code [] n e = let f : n ≡ 9 = cc in rw f
+no_code (b ∷ s) n e = absurd (cc)

@@ -3,75 +3,43 @@
 #![tactic(auto)]
 
 ghost use Rattle.std.specs.Prelude.{◌≡◌};
+ghost use Rattle.refusal.specs.Told.{told};
 ghost use Rattle.reader.specs.Readings as Readings;
 
-use varint::Read;
-
-// A value that was read and the place after it, with refusal 0; or the refusal number, with value 0 and the place where it should have started.
-#[derive(Clone, Copy)]
-pub struct Value {
-    pub refusal: u8,
-    pub value: u64,
-    pub next: usize,
-}
-
-fn no_value(refusal: u8, place: usize) -> Value
-    ensures { result ≡ record { refusal = refusal; value = 0; next = place } }
-{
-    Value {
-        refusal: refusal,
-        value: 0,
-        next: place,
-    }
-}
+use refusal::Refusal;
+use varint::{Found, NoNumber};
 
 // The byte at a place of a string.
-fn byte_at(string: &[u8], place: usize) -> Value
-    ensures { result ≡ Readings.byte_at string.now place }
+fn byte_at(string: &[u8], place: usize) -> Result<Found<u8>, Refusal>
+    ensures { told result ≡ Readings.byte_at string.now place }
 {
     if place < string.len() {
-        return Value {
-            refusal: 0,
-            value: string[place] as u64,
+        return Ok(Found {
+            value: string[place],
             next: place + 1,
-        };
+        });
     }
-    no_value(9, place)
+    Err(Refusal::EndsEarly)
 }
 
 // The number from a place of a string on, of at most four groups.
-fn number_at(string: &[u8], place: usize) -> Value
-    ensures { result ≡ Readings.number_at string.now place }
+fn number_at(string: &[u8], place: usize) -> Result<Found<u64>, Refusal>
+    ensures { told result ≡ Readings.number_at string.now place }
 {
     if string.len() < place {
-        return no_value(9, place);
+        return Err(Refusal::EndsEarly);
     }
-    let read = varint::read_number(string, place, 4);
-    match read {
-        Read::Number { value, next } => Value {
-            refusal: 0,
-            value: value,
-            next: next,
-        },
-        Read::Ended => no_value(9, place),
-        Read::Malformed => no_value(10, place),
-    }
+    varint::read_number(string, place, 4).map_err(|none| match none {
+        NoNumber::Ended => Refusal::EndsEarly,
+        NoNumber::Malformed => Refusal::BadNumber,
+    })
 }
 
 // The reader: the string that it walks, and how far it has come.
-#[derive(Clone, Copy)]
+#[derive(Clone, Copy, Debug, PartialEq, Eq)]
 pub struct Reader<'a> {
     pub string: &'a [u8],
     pub place: usize,
-}
-
-// What a reader has read, with refusal 0, and how far it has come; or the refusal number, with value 0 and the place where it stood.
-#[derive(Clone, Copy)]
-pub struct Part<'a> {
-    pub string: &'a [u8],
-    pub place: usize,
-    pub refusal: u8,
-    pub value: u64,
 }
 
 impl<'a> Reader<'a> {
@@ -82,73 +50,37 @@ impl<'a> Reader<'a> {
         Reader { string, place: 0 }
     }
 
-    // Reads the code byte.
-    pub fn code(self) -> Part<'a>
-        ensures { result ≡ Readings.part_of self.entry (Readings.byte_at self.entry.string.now self.entry.place) }
+    // Reads the code byte; where it is refused the reader stays where it is.
+    pub fn code(&mut self) -> Result<u8, Refusal>
+        ensures read { told result ≡ Readings.value_in (Readings.byte_at self.old.string.now self.old.place) }
+        ensures place { self.new ≡ Readings.come self.old (Readings.byte_at self.old.string.now self.old.place) }
     {
-        let read = byte_at(self.string, self.place);
-        Part {
-            string: self.string,
-            place: read.next,
-            refusal: read.refusal,
-            value: read.value,
-        }
+        let found = byte_at(self.string, self.place)?;
+        self.place = found.next;
+        Ok(found.value)
     }
 
-    // Reads a number.
-    pub fn number(self) -> Part<'a>
-        ensures { result ≡ Readings.part_of self.entry (Readings.number_at self.entry.string.now self.entry.place) }
+    // Reads a number; where it is refused the reader stays where it is.
+    pub fn number(&mut self) -> Result<u64, Refusal>
+        ensures read { told result ≡ Readings.value_in (Readings.number_at self.old.string.now self.old.place) }
+        ensures place { self.new ≡ Readings.come self.old (Readings.number_at self.old.string.now self.old.place) }
     {
-        let read = number_at(self.string, self.place);
-        Part {
-            string: self.string,
-            place: read.next,
-            refusal: read.refusal,
-            value: read.value,
-        }
+        let found = number_at(self.string, self.place)?;
+        self.place = found.next;
+        Ok(found.value)
     }
 }
 
-// The number that starts where a reader of a string has come to after the code byte.
-fn number_after_code(string: &[u8]) -> Value
-    ensures { result ≡ Readings.number_at string.now (Readings.byte_at string.now 0).next }
+// The position that follows the code byte of a checkpoint, and the place after it, through the reader.
+#[tactic(auto, using(crate::proofs::Positions::no_code))]
+pub fn read_position(string: &[u8]) -> Result<Found<u64>, Refusal>
+    ensures { told result ≡ Readings.position_of string.now }
 {
-    let code = Reader::code(Reader::new(string));
-    let after = Reader {
-        string: code.string,
-        place: code.place,
-    };
-    let number = Reader::number(after);
-    Value {
-        refusal: number.refusal,
-        value: number.value,
-        next: number.place,
-    }
-}
-
-// The position of a checkpoint and the place after it, with refusal 0; or load's refusal 9 or 10, with value and next 0.
-#[derive(Clone, Copy)]
-pub struct Position {
-    pub refusal: u8,
-    pub value: u64,
-    pub next: usize,
-}
-
-// The position that follows the code byte of a checkpoint, through the reader.
-pub fn read_position(string: &[u8]) -> Position
-    ensures { result ≡ Readings.position_of string.now }
-{
-    let number = number_after_code(string);
-    if number.refusal == 0 {
-        return Position {
-            refusal: 0,
-            value: number.value,
-            next: number.next,
-        };
-    }
-    Position {
-        refusal: number.refusal,
-        value: 0,
-        next: 0,
-    }
+    let mut reader = Reader::new(string);
+    reader.code()?;
+    let value = reader.number()?;
+    Ok(Found {
+        value,
+        next: reader.place,
+    })
 }
