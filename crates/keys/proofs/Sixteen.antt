@@ -2,16 +2,17 @@
 -- where they have to are those of their own key and IV. Assumes nothing.
 use mathlib.Core.Path.{◌≡◌, refl, sym, ap, ◌∙◌}
 use mathlib.Core.Bool.{true, ◌&&◌}
-use mathlib.Core.List.{List, ◌++◌, append_assoc}
+use mathlib.Core.List.{List, [], ◌∷◌, ◌++◌, append_assoc}
 use mathlib.Core.Logic.{⊎_elim}
 use Prim.Native.Nat.{ℕ, ◌+◌, ◌*◌, ◌/◌, ◌%◌, ◌≤◌, ◌<◌}
 use native.Mathlib.Omega.{arith}
-use borrow.Author.Count.{below_more}
-use lib.ListN.{length, get_or, set, take, drop, length-append, length-set, length-drop, take-append-drop, get_or-append}
-use lib.Seq.{get_or-set_same, get_or-set_other, take_at, drop_at, take-add, take_all, take-append-le, drop-drop, get_or-append-add, length-take-le, get_or-take, get_or-drop, ext_get_or}
+use lib.ListN.{length, get_or, take, drop, length-append, length-drop, take-append-drop, get_or-append}
+use lib.Dec.{eqb}
+use lib.Pointwise.{pointwise}
+use lib.Seq.{take_at, drop_at, take-add, take_all, take-append-le, drop-drop, get_or-append-add, length-take-le, get_or-take, get_or-drop, ext_get_or}
 use Rattle.laws.specs.Same.{same}
 use Rattle.laws.proofs.Same.{equal_same, same_equal, and_left, and_right}
-use Rattle.laws.proofs.Lists.{filled_more, append_below, take_below, drop_below, part_length, below_or_not}
+use Rattle.laws.proofs.Lists.{append_below, take_below, drop_below, part_length, below_or_not}
 use Rattle.word.specs.Bytes.{bytes, words, AllBytes, AllWords}
 use Rattle.word.proofs.Bytes.{words_bytes, bytes_words, length_bytes, length_words, words_lt, bytes_lt}
 use Rattle.cipher.specs.declared.Cipher.{Cipher}
@@ -137,22 +138,6 @@ module _ (w : List ℕ) (long : length w ≡ 16) (ok : AllWords w) where
         iv_bytes = bytes_lt (take (iv_length c / 4) (drop 8 w));
       }
 
--- two halves of eight words, one word more in each
-pub two_more : (f g : ℕ → ℕ) (w : List ℕ) (k x y : ℕ) → k < 8 → length w ≡ 16 → x ≡ f k → y ≡ g k
-    → ((m : ℕ) → m < k → get_or w m 0 ≡ f m)
-    → ((m : ℕ) → m < k → get_or w (8 + m) 0 ≡ g m)
-    → ((m : ℕ) → m < k + 1 → get_or (set (set w k x) (8 + k) y) m 0 ≡ f m)
-    × ((m : ℕ) → m < k + 1 → get_or (set (set w k x) (8 + k) y) (8 + m) 0 ≡ g m)
-two_more f g w k x y l n p q low high = (
-  λ m b. get_or-set_other (set w k x) (8 + k) m y 0 (λ e. omega arith) ∙ filled_more f w k x (omega arith) p low m b,
-  below_more (λ m. get_or (set (set w k x) (8 + k) y) (8 + m) 0 ≡ g m) k
-      (λ m b.
-      get_or-set_other (set w k x) (8 + k) (8 + m) y 0 (λ e. omega arith)
-      ∙ get_or-set_other w k (8 + m) x 0 (λ e. omega arith)
-      ∙ high m b)
-      (get_or-set_same (set w k x) (8 + k) y 0 (simp length-set (omega arith)) ∙ q),
-)
-
 -- sixteen words, of which word k of each half is word k mod 4 or k mod 8 of the key or the IV
 pub sixteen_is : (c : Cipher) (key iv w : List ℕ) → length key ≡ key_length c → length iv ≡ iv_length c → length w ≡ 16
     → ((k : ℕ) → k < 8 → get_or w k 0 ≡ get_or (words key) (k % (key_length c / 4)) 0)
@@ -171,8 +156,18 @@ sixteen_is c key iv w n m long low high =
     (λ k b. let d : k < 8 = omega arith in get_or-drop 8 w k 0 ∙ high k d ∙ sym (eight_at iv c e k d)) in
     rw (sixteen_eight, ← first, ← second) (sym (take-append-drop 8 w))
 
+-- what `==` tells of two slices
+same_is : (l m : List ℕ) → same l m ≡ pointwise eqb l m
+unfolding same
+same_is [] [] = refl
+same_is [] (b ∷ m) = refl
+same_is (a ∷ l) [] = refl
+same_is (a ∷ l) (b ∷ m) = rw (same_is l m) refl
+
 -- the two comparisons of four words for HC-128
 pub doubled_is : (w : List ℕ) → length w ≡ 16
-    → doubled Hc128 w ≡ same (take 4 (drop 0 w)) (take 4 (drop 4 w)) && same (take 4 (drop 8 w)) (take 4 (drop 12 w))
+    → doubled Hc128 w ≡ pointwise eqb (take 4 w) (take 4 (drop 4 w)) && pointwise eqb (take 4 (drop 8 w)) (take 4 (drop 12 w))
 unfolding doubled
-doubled_is w n = rw (take_all 4 (drop 12 w) (rw (length-drop, n) (omega arith)))
+doubled_is w n =
+    let last : take 4 (drop 12 w) ≡ drop 12 w = take_all 4 (drop 12 w) (rw (length-drop, n) (omega arith)) in
+    rw (← same_is (take 4 w) _, ← same_is (take 4 (drop 8 w)) _, last) refl

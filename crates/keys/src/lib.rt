@@ -22,8 +22,7 @@ fn word_at(b: &[u8], k: usize) -> u32
 fn key_words(cipher: Cipher) -> usize
     ensures { (result ≡ key_length cipher / 4) × (0 < result) × (result ≤ 8) × (4 * result ≡ key_length cipher) × (4 * result ≡ iv_length cipher) }
 {
-    let row = cipher.row();
-    row.key / 4
+    cipher.key_bytes() / 4
 }
 
 // W0..15 of a key and an IV.
@@ -33,24 +32,20 @@ pub fn sixteen_words(cipher: Cipher, key: &[u8], iv: &[u8]) -> [u32; 16]
 {
     let n = key_words(cipher);
     let mut w = [0u32; 16];
-    let mut k = 0;
-    while k < 8 {
+    for k in 0..8 {
         w[k] = word_at(key, k % n);
         w[8 + k] = word_at(iv, k % n);
-        k += 1;
     }
     w
 }
 
-// Fills `out` with the bytes of the words of w from place `from` on.
-fn store_bytes(w: [u32; 16], from: usize, out: &mut [u8])
-    requires { (from ≤ 8) × (length out.old ≤ 32) × (4 * (length out.old / 4) ≡ length out.old) }
-    ensures { out.new ≡ Bytes.bytes (take (length out.old / 4) (drop from w)) }
+// Fills `out` with the bytes of the first of these words.
+fn store_bytes(words: &[u32], out: &mut [u8])
+    requires { (length out.old ≤ 4 * length words.now) × (4 * (length out.old / 4) ≡ length out.old) }
+    ensures { out.new ≡ Bytes.bytes (take (length out.old / 4) words.now) }
 {
-    let mut j = 0;
-    while j < out.len() {
-        out[j] = word::byte(w[from + j / 4], (j % 4) as u32) as u8;
-        j += 1;
+    for (j, byte) in out.iter_mut().enumerate() {
+        *byte = word::byte(words[j / 4], (j % 4) as u32) as u8;
     }
 }
 
@@ -59,23 +54,8 @@ pub fn store_key_and_iv(cipher: Cipher, w: [u32; 16], key: &mut [u8], iv: &mut [
     requires { (length key.old ≡ key_length cipher) × (length iv.old ≡ iv_length cipher) }
     ensures { (key.new ≡ Key.key_of cipher w) × (iv.new ≡ Key.iv_of cipher w) }
 {
-    store_bytes(w, 0, key);
-    store_bytes(w, 8, iv);
-}
-
-// Whether the four words from place a on are the four from place b on.
-fn four_same(w: [u32; 16], a: usize, b: usize) -> bool
-    requires { (a ≤ 12) × (b ≤ 12) }
-    ensures { result ≡ same (take 4 (drop a w)) (take 4 (drop b w)) }
-{
-    let mut k = 0;
-    while k < 4 {
-        if w[a + k] != w[b + k] {
-            return false;
-        }
-        k += 1;
-    }
-    true
+    store_bytes(&w, key);
+    store_bytes(&w[8..], iv);
 }
 
 // Whether the words that have to stand twice do.
@@ -83,7 +63,7 @@ pub fn doubled(cipher: Cipher, w: [u32; 16]) -> bool
     ensures { result ≡ Key.doubled cipher w }
 {
     match cipher {
-        Cipher::Hc128 => four_same(w, 0, 4) & four_same(w, 8, 12),
+        Cipher::Hc128 => w[..4] == w[4..8] && w[8..12] == w[12..],
         Cipher::Hc256 => true,
     }
 }
