@@ -39,9 +39,7 @@ fn unexpand(w: [u32; 16], i: usize, n: usize) -> [u32; 16]
     ensures { result ≡ backward Window.previous w i n }
 {
     let mut v = w;
-    let mut k = n;
-    while 0 < k {
-        k -= 1;
+    for k in (0..n).rev() {
         let at = i + k;
         v[at % 16] = previous_word(
             v[at % 16],
@@ -61,30 +59,12 @@ fn half_table(cipher: Cipher) -> usize
     cipher.table_words() / 2
 }
 
-// Lays sixteen words at the start of others.
-fn lay(w: [u32; 16], words: &mut [u32])
-    requires { 16 ≤ length words.old }
-    ensures { take 16 words.new ≡ w }
-{
-    let mut k = 0;
-    while k < 16 {
-        words[k] = w[k];
-        k += 1;
-    }
-}
-
 // Sixteen words from place k on.
 fn sixteen_from(words: &[u32], k: usize) -> [u32; 16]
     requires { k + 16 ≤ length words.now }
     ensures { result ≡ take 16 (drop k words.now) }
 {
-    let mut v = [0u32; 16];
-    let mut m = 0;
-    while m < 16 {
-        v[m] = words[k + m];
-        m += 1;
-    }
-    v
+    <[u32; 16]>::try_from(&words[k..k + 16]).unwrap()
 }
 
 // The word at place k, made of words before it, where the first word is Wn and w2 the word at place k - 2.
@@ -108,8 +88,8 @@ fn go_on(words: &mut [u32], n: usize)
 {
     let mut w2 = words[14];
     let mut w1 = words[15];
-    let mut k = 16;
-    while k < words.len() {
+    for j in 4..words.len() / 4 {
+        let k = 4 * j;
         w2 = next_at(words, k, w2, n);
         words[k] = w2;
         w1 = next_at(words, k + 1, w1, n);
@@ -118,7 +98,6 @@ fn go_on(words: &mut [u32], n: usize)
         words[k + 2] = w2;
         w1 = next_at(words, k + 3, w1, n);
         words[k + 3] = w1;
-        k += 4;
     }
 }
 
@@ -128,7 +107,7 @@ fn sixteen_more(w: [u32; 16], n: usize) -> [u32; 16]
     ensures { Window.Run n (w ++ result) }
 {
     let mut words = [0u32; 32];
-    lay(w, &mut words);
+    words[..16].copy_from_slice(&w);
     go_on(&mut words, n);
     sixteen_from(&words, 16)
 }
@@ -139,7 +118,7 @@ fn expand(w: [u32; 16], n: usize, area: &mut [u32]) -> [u32; 16]
     ensures { Window.Run n (w ++ area.new) × (result ≡ drop (length area.new - 16) area.new) }
 {
     let first = sixteen_more(w, n);
-    lay(first, area);
+    area[..16].copy_from_slice(&first);
     go_on(area, n + 16);
     sixteen_from(area, area.len() - 16)
 }
@@ -168,13 +147,11 @@ fn is_expansion(cipher: Cipher, area: &[u32]) -> bool
     ensures { result ≡ same area.now (Expansion.filled cipher (Origin.origin cipher area.now)) }
 {
     let half = half_table(cipher);
-    let mut k = 16;
-    while k < area.len() {
+    for k in 16..area.len() {
         let next = next_at(area, k, area[k - 2], half);
         if area[k] != next {
             return false;
         }
-        k += 1;
     }
     true
 }

@@ -1,10 +1,12 @@
 -- Of the thirty-two words, the first sixteen are w and the others are made of them.
 use Rattle.std.proofs.Common.{◌≡◌, length, rules, ◌∙◌}
+use lib.Seq.{take_at}
 use Rattle.schedule.proofs.Run.{run_two}
 use Rattle.schedule.proofs.sixteen_more.Goals as goal
 
 pub returns : goal.returns
 returns c =
-    let on = c.go_on in
-    let long : length on.new.words ≡ 32 = search rules in
-    run_two on.new.words _ _ _ long (on.ensures.0 ∙ c.lay.ensures) c.sixteen_from.ensures on.ensures.1
+    let n : length c.args.w ≡ 16 = search rules in
+    let long : length c.go_on.new.words ≡ 32 = search rules in
+    let e = c.copy_from_slice.ensures.after in
+    run_two c.go_on.new.words _ _ _ long (rw e at c.go_on.ensures.0 ∙ take_at _ _ 16 n) c.sixteen_from.ensures c.go_on.ensures.1
