@@ -132,7 +132,7 @@ fn word_256(p: bool, area: &mut [u32], x: Indices) -> u32
     let minus10 = a + x.minus10;
     let plus1 = a + x.plus1;
     let minus12 = a + x.minus12;
-    let g = functions::g_256(&area[b..], 0, area[minus3], area[plus1]);
+    let g = functions::g_256(&area[b..], area[minus3], area[plus1]);
     let d = word::sum(area[minus10], g);
     area[j] = word::sum(area[j], d);
     functions::h(Cipher::Hc256, &area[b..], area[minus12]) ^ area[j]

@@ -1,8 +1,7 @@
 // The functions g and h of the two ciphers, and with them the feedback and h(A[j-12]) by cipher, where P changes or Q.
 #![tactic(auto)]
 
-ghost use Rattle.std.specs.Prelude.{◌≡◌, ◌+◌, ◌≤◌, length};
-ghost use Rattle.word.specs.Word.{R, L};
+ghost use Rattle.std.specs.Prelude.{◌≡◌, ◌≤◌, ◌<◌, length};
 ghost use Rattle.cipher.specs.Numbers.{table_length, area_length};
 ghost use Rattle.functions.specs.Functions as Functions;
 ghost use Rattle.functions.specs.Functions.{table};
@@ -10,63 +9,53 @@ ghost use Rattle.functions.specs.ByCipher as ByCipher;
 
 use cipher::Cipher;
 
-// g of HC-128 for P.
-fn g_p(x: u32, y: u32, z: u32) -> u32
-    ensures { result ≡ Functions.g128 R x y z }
+// HC-128's rotation by n bits, to the right where P changes and else to the left.
+fn rotate(p: bool, x: u32, n: u32) -> u32
+    requires { (0 < n) × (n < 32) }
+    ensures { result ≡ Functions.rotation p n x }
 {
-    word::sum(
-        word::rotate_right(x, 10) ^ word::rotate_right(z, 23),
-        word::rotate_right(y, 8),
-    )
+    if p {
+        word::rotate_right(x, n)
+    } else {
+        word::rotate_left(x, n)
+    }
 }
 
-// g of HC-128 for Q.
-fn g_q(x: u32, y: u32, z: u32) -> u32
-    ensures { result ≡ Functions.g128 L x y z }
+// g of HC-128, where p tells whether P changes.
+fn g_128(p: bool, x: u32, y: u32, z: u32) -> u32
+    ensures { result ≡ Functions.g128 (Functions.rotation p) x y z }
 {
-    word::sum(
-        word::rotate_left(x, 10) ^ word::rotate_left(z, 23),
-        word::rotate_left(y, 8),
-    )
+    (rotate(p, x, 10) ^ rotate(p, z, 23)).wrapping_add(rotate(p, y, 8))
 }
 
-// g of HC-256, where the table that is looked up begins at b.
-pub fn g_256(area: &[u32], b: usize, x: u32, y: u32) -> u32
-    requires { b + 1024 ≤ length area.now }
-    ensures { result ≡ Functions.g256 (table area.now b) x y }
+// g of HC-256, where the words lent begin with the table that is looked up.
+pub fn g_256(words: &[u32], x: u32, y: u32) -> u32
+    requires { 1024 ≤ length words.now }
+    ensures { result ≡ Functions.g256 (table words.now 0) x y }
 {
-    word::sum(
-        word::rotate_right(x, 10) ^ word::rotate_right(y, 23),
-        area[b + ((x ^ y) % 1024) as usize],
-    )
+    let looked_up = words[((x ^ y) % 1024) as usize];
+    (word::rotate_right(x, 10) ^ word::rotate_right(y, 23)).wrapping_add(looked_up)
 }
 
-// h of HC-128, where the table that is looked up begins at b.
-fn h_128(area: &[u32], b: usize, x: u32) -> u32
-    requires { b + 512 ≤ length area.now }
-    ensures { result ≡ Functions.h128 (table area.now b) x }
+// h of HC-128, where the words lent begin with the table that is looked up.
+fn h_128(words: &[u32], x: u32) -> u32
+    requires { 512 ≤ length words.now }
+    ensures { result ≡ Functions.h128 (table words.now 0) x }
 {
-    word::sum(
-        area[b + word::byte(x, 0) as usize],
-        area[b + (256 + word::byte(x, 2)) as usize],
-    )
+    let [x0, _, x2, _] = word::to_bytes(x);
+    words[usize::from(x0)].wrapping_add(words[256 + usize::from(x2)])
 }
 
-// h of HC-256, where the table that is looked up begins at b.
-fn h_256(area: &[u32], b: usize, x: u32) -> u32
-    requires { b + 1024 ≤ length area.now }
-    ensures { result ≡ Functions.h256 (table area.now b) x }
+// h of HC-256, where the words lent begin with the table that is looked up.
+fn h_256(words: &[u32], x: u32) -> u32
+    requires { 1024 ≤ length words.now }
+    ensures { result ≡ Functions.h256 (table words.now 0) x }
 {
-    word::sum(
-        word::sum(
-            word::sum(
-                area[b + word::byte(x, 0) as usize],
-                area[b + (256 + word::byte(x, 1)) as usize],
-            ),
-            area[b + (512 + word::byte(x, 2)) as usize],
-        ),
-        area[b + (768 + word::byte(x, 3)) as usize],
-    )
+    let [x0, x1, x2, x3] = word::to_bytes(x);
+    words[usize::from(x0)]
+        .wrapping_add(words[256 + usize::from(x1)])
+        .wrapping_add(words[512 + usize::from(x2)])
+        .wrapping_add(words[768 + usize::from(x3)])
 }
 
 // The word w with d put on it, or taken off where `back` holds.
@@ -74,9 +63,9 @@ fn put(back: bool, w: u32, d: u32) -> u32
     ensures { result ≡ ByCipher.put back w d }
 {
     if back {
-        word::difference(w, d)
+        w.wrapping_sub(d)
     } else {
-        word::sum(w, d)
+        w.wrapping_add(d)
     }
 }
 
@@ -95,36 +84,11 @@ pub fn with_feedback(
     requires { length area.now ≡ area_length cipher }
     ensures { result ≡ ByCipher.put back w (ByCipher.feedback_of cipher p area.now x y z) }
 {
-    match cipher {
-        Cipher::Hc128 => if p {
-            put(back, w, g_p(x, y, z))
-        } else {
-            put(back, w, g_q(x, y, z))
-        },
-        Cipher::Hc256 => if p {
-            put(back, w, word::sum(y, g_256(area, 1024, x, z)))
-        } else {
-            put(back, w, word::sum(y, g_256(area, 0, x, z)))
-        },
-    }
-}
-
-// h(x), where p tells whether P changes.
-pub fn filter(cipher: Cipher, area: &[u32], p: bool, x: u32) -> u32
-    requires { length area.now ≡ area_length cipher }
-    ensures { result ≡ ByCipher.filter_of cipher p area.now x }
-{
-    match cipher {
-        Cipher::Hc128 => if p {
-            h_128(area, 512, x)
-        } else {
-            h_128(area, 0, x)
-        },
-        Cipher::Hc256 => if p {
-            h_256(area, 1024, x)
-        } else {
-            h_256(area, 0, x)
-        },
+    match (cipher, p) {
+        (Cipher::Hc128, true) => put(back, w, g_128(true, x, y, z)),
+        (Cipher::Hc128, false) => put(back, w, g_128(false, x, y, z)),
+        (Cipher::Hc256, true) => put(back, w, y.wrapping_add(g_256(&area[1024..], x, z))),
+        (Cipher::Hc256, false) => put(back, w, y.wrapping_add(g_256(area, x, z))),
     }
 }
 
@@ -134,7 +98,20 @@ pub fn h(cipher: Cipher, words: &[u32], x: u32) -> u32
     ensures { result ≡ ByCipher.h_of cipher (table words.now 0) x }
 {
     match cipher {
-        Cipher::Hc128 => h_128(words, 0, x),
-        Cipher::Hc256 => h_256(words, 0, x),
+        Cipher::Hc128 => h_128(words, x),
+        Cipher::Hc256 => h_256(words, x),
+    }
+}
+
+// h(x), where p tells whether P changes.
+pub fn filter(cipher: Cipher, area: &[u32], p: bool, x: u32) -> u32
+    requires { length area.now ≡ area_length cipher }
+    ensures { result ≡ ByCipher.filter_of cipher p area.now x }
+{
+    match (cipher, p) {
+        (Cipher::Hc128, true) => h_128(&area[512..], x),
+        (Cipher::Hc128, false) => h_128(area, x),
+        (Cipher::Hc256, true) => h_256(&area[1024..], x),
+        (Cipher::Hc256, false) => h_256(area, x),
     }
 }

@@ -69,7 +69,7 @@ pub fn from_bytes(b0: u8, b1: u8, b2: u8, b3: u8) -> u32
 
 // The four bytes of a word, least significant first.
 pub fn to_bytes(x: u32) -> [u8; 4]
-    ensures { result ≡ Bytes.bytes (x ∷ []) }
+    ensures { result ≡ Bytes.byte 0 x ∷ Bytes.byte 1 x ∷ Bytes.byte 2 x ∷ Bytes.byte 3 x ∷ [] }
 {
     x.to_le_bytes()
 }

@@ -1,25 +1,25 @@
 -- `functions::with_feedback` meets its contract: each arm has the feedback of its cipher.
-use Rattle.functions.proofs.Arms.{feedback_128, feedback_256}
+use Rattle.std.proofs.Common.{ℕ, ap, ◌∙◌}
+use Rattle.functions.specs.Functions.{g256}
+use Rattle.functions.specs.ByCipher.{feedback_of}
+use Rattle.functions.proofs.Tables.{part_table}
 use Rattle.functions.proofs.with_feedback.Goals as goal
 
-pub returns-then-p : goal.returns-then-p
-returns-then-p c =
-    let a = c.args in
-    feedback_128 a.area.now a.p a.back a.w a.x a.y a.z c.in-Hc128.is c.put.ensures (rw c.if-p.true c.g_p.ensures)
+pub returns-in-Hc128-true : goal.returns-in-Hc128-true
+unfolding feedback_of
+returns-in-Hc128-true c = let i = c.in-Hc128-true in rw (i.is-0, i.is-1, ← c.g_128.ensures) c.put.ensures
 
-pub returns-else-p : goal.returns-else-p
-returns-else-p c =
-    let a = c.args in
-    feedback_128 a.area.now a.p a.back a.w a.x a.y a.z c.in-Hc128.is c.put-else-p.ensures (rw c.if-p.false c.g_q.ensures)
+pub returns-in-Hc128-false : goal.returns-in-Hc128-false
+unfolding feedback_of
+returns-in-Hc128-false c = let i = c.in-Hc128-false in rw (i.is-0, i.is-1, ← c.g_128-in-Hc128-false.ensures) c.put-in-Hc128-false.ensures
 
-pub returns-then-p-2 : goal.returns-then-p-2
-returns-then-p-2 c =
-    let a = c.args in
-    feedback_256 a.area.now a.p a.back a.w a.x a.y a.z c.in-Hc256.is c.put-then-p-2.ensures c.sum.ensures
-    (rw c.if-p-2.true c.g_256.ensures)
+pub returns-in-Hc256-true : goal.returns-in-Hc256-true
+unfolding feedback_of
+returns-in-Hc256-true c =
+    let i = c.in-Hc256-true in
+    let g = c.g_256.ensures ∙ ap (λ (B : ℕ → ℕ). g256 B c.args.x c.args.z) (part_table c.args.area.now 1024) in
+    rw (i.is-0, i.is-1, ← g) c.put-in-Hc256-true.ensures
 
-pub returns-else-p-2 : goal.returns-else-p-2
-returns-else-p-2 c =
-    let a = c.args in
-    feedback_256 a.area.now a.p a.back a.w a.x a.y a.z c.in-Hc256.is c.put-else-p-2.ensures c.sum-else-p-2.ensures
-    (rw c.if-p-2.false c.g_256-else-p-2.ensures)
+pub returns-in-Hc256-false : goal.returns-in-Hc256-false
+unfolding feedback_of
+returns-in-Hc256-false c = let i = c.in-Hc256-false in rw (i.is-0, i.is-1, ← c.g_256-in-Hc256-false.ensures) c.put-in-Hc256-false.ensures
