@@ -2,16 +2,14 @@
 use mathlib.Core.Path.{◌≡◌, refl, sym}
 use mathlib.Core.List.{List, [], ◌∷◌}
 use Prim.Native.Nat.{ℕ, ◌≤◌}
-use native.Mathlib.Omega.{arith}
-use borrow.Author.Tests.{ne_eqb}
 use lib.ListN.{length, drop}
 use Rattle.laws.specs.Result.{Result, refused, accepted, ◌>>=◌, ◌>>◌, refuse◌unless◌}
 use Rattle.laws.proofs.Results.{no_refusal}
+use Rattle.varint.specs.declared.Found.{Found}
 use Rattle.volume.specs.declared.Entry.{Entry}
-use Rattle.volume.specs.declared.reading.CountFound.{CountFound}
 use Rattle.volume.specs.Volume.{count_range}
 use Rattle.volume.specs.Calls.{EntriesRead, read_value, read_entries, is_empty, entries_in}
-use Rattle.volume.specs.Found.{entries_only, count_in, CountIs}
+use Rattle.volume.specs.Found.{value_from, entries_only, count_in, Begins}
 use Rattle.volume.proofs.Values.{value_in_range, range_most}
 use Rattle.volume.proofs.EntryByEntry.{entries_count}
 
@@ -42,38 +40,24 @@ whole_accepted (refused n) e = no_refusal (sym e)
 whole_accepted (accepted read) e = (read, refl, rw (rest_accepted read.rest e))
 
 module _ (string : List ℕ) where
-  counts_no : (m : ℕ) (r : CountFound) → (m ≡ 0 → ⊥) → r ≡ record { refusal = m; count = 0; first = 0 } → entries_in string ≡ refused m → CountIs string r
-  unfolding count_in
-  counts_no m r h e q =
-      rw e
-      (record {
-        count_is = rw (ne_eqb m 0 h, q);
-        beside = λ _. refl;
-        at_most = omega arith;
-        within = omega arith;
-        begins = λ z. absurd (h z);
-      })
+  pub counts_no_number : (m : ℕ) → refused m ≡ read_value count_range string → refused m ≡ count_in string
+  unfolding count_in entries_in
+  counts_no_number m q = rw (sym q)
 
-  pub counts_no_number : (m : ℕ) (r : CountFound) → (m ≡ 0 → ⊥) → r ≡ record { refusal = m; count = 0; first = 0 }
-      → read_value count_range string ≡ refused m → CountIs string r
-  unfolding entries_in
-  counts_no_number m r h e q = counts_no m r h e (rw q)
-
-  module _ (n first : ℕ) (number : read_value count_range string ≡ accepted (record { value = n; rest = drop first string })) where
-    pub counts_no_entries : (m : ℕ) (r : CountFound) → (m ≡ 0 → ⊥) → r ≡ record { refusal = m; count = 0; first = 0 }
-        → entries_only (λ _. tt {0}) n (drop first string) ≡ refused m → CountIs string r
-    unfolding entries_in entries_only
-    counts_no_entries m r h e q = counts_no m r h e (rw number (whole_refused (read_entries n (drop first string)) m q))
-
-    pub counts : first ≤ length string → entries_only (λ _. tt {0}) n (drop first string) ≡ accepted tt
-        → CountIs string (record { refusal = 0; count = n; first = first })
+  module _ (found : Found ℕ) (number : accepted (value_from string found) ≡ read_value count_range string) where
+    pub counts_no_entries : (m : ℕ) → refused m ≡ entries_only (λ _. tt {0}) found.value (drop found.next string) → refused m ≡ count_in string
     unfolding count_in entries_in entries_only
-    counts h q =
-        let w = whole_accepted (read_entries n (drop first string)) q in
-        record {
-          beside = λ h. absurd (h refl);
-          count_is = sym (rw (number, w.2, entries_count n (drop first string) _ w.1));
-          at_most = range_most count_range n (value_in_range count_range string _ number);
-          within = h;
-          begins = λ z. number;
-        }
+    counts_no_entries m q = rw (sym number, whole_refused (read_entries found.value (drop found.next string)) m (sym q))
+
+    pub counts : accepted tt ≡ entries_only (λ _. tt {0}) found.value (drop found.next string) → accepted found.value ≡ count_in string
+    unfolding count_in entries_in entries_only
+    counts q =
+        let w = whole_accepted (read_entries found.value (drop found.next string)) (sym q) in
+        rw (sym number, w.2, entries_count found.value (drop found.next string) _ w.1)
+
+    pub begins : found.next ≤ length string → Begins string found
+    begins h = record {
+      at_most = range_most count_range found.value (value_in_range count_range string _ (sym number));
+      within = h;
+      begins = sym number;
+    }

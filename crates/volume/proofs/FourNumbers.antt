@@ -1,21 +1,14 @@
--- An entry from its four numbers, in reading order: checked, and read again. Assumes nothing.
+-- An entry from its four numbers, in reading order. Assumes nothing.
 use mathlib.Core.Path.{◌≡◌, refl, sym, ◌∙◌}
 use mathlib.Core.List.{List}
-use Prim.Native.Nat.{ℕ, ◌≤◌}
-use native.Mathlib.Omega.{arith}
-use borrow.Author.Tests.{ne_eqb}
-use lib.ListN.{length, drop}
-use Rattle.laws.specs.Result.{refused, accepted, ◌>>=◌}
+use Prim.Native.Nat.{ℕ}
+use lib.ListN.{drop}
+use Rattle.laws.specs.Result.{accepted, ◌>>=◌}
 use Rattle.laws.proofs.Results.{after_line, no_refusal, accepted_one}
-use Rattle.volume.specs.declared.reading.EntryChecked.{EntryChecked}
-use Rattle.volume.specs.declared.reading.NumberFound.{NumberFound}
+use Rattle.varint.specs.declared.Found.{Found}
 use Rattle.volume.specs.Volume.{minutes_range, litres_range, ratio_range, product_range}
 use Rattle.volume.specs.Calls.{ValueRead, EntryRead, read_value, read_entry}
-use Rattle.volume.specs.Found.{entry_is, no_entry, NumberReadAgain, EntryReadAgain}
-
--- what `check_entry` ensures of its answer
-abbrev pub Found : (string rest : List ℕ) → EntryChecked → Type 0
-Found string rest r = (entry_is string r ≡ read_entry rest) × (r.next ≤ length string) × ((r.refusal ≡ 0 → ⊥) → r ≡ no_entry r.refusal)
+use Rattle.volume.specs.Found.{NumberReadAgain, EntryReadAgain}
 
 -- the entry of four numbers that were read
 abbrev pub entry_of : (minutes litres ratio product : ValueRead) → EntryRead
@@ -24,46 +17,6 @@ entry_of minutes litres ratio product =
       entry = record { minutes = minutes.value; litres = litres.value; ratio = ratio.value; product = product.value };
       rest = product.rest;
     }
-
--- the first of the four that is refused, or all of them
-module _ (string rest : List ℕ) where
-  refuses : {m : ℕ} (r : EntryChecked) → (m ≡ 0 → ⊥) → r ≡ no_entry m → read_entry rest ≡ refused m → Found string rest r
-  refuses {m} r h e q = rw e (rw (ne_eqb m 0 h, q), omega arith, λ _. refl)
-
-  pub no_minutes : {m : ℕ} (r : EntryChecked) → (m ≡ 0 → ⊥) → r ≡ no_entry m → read_value minutes_range rest ≡ refused m → Found string rest r
-  unfolding read_entry
-  no_minutes r h e q = refuses r h e (rw q)
-
-  module _ (minutes : ValueRead) (is_minutes : read_value minutes_range rest ≡ accepted minutes) where
-    pub no_litres : {m : ℕ} (r : EntryChecked) → (m ≡ 0 → ⊥) → r ≡ no_entry m → read_value litres_range minutes.rest ≡ refused m
-        → Found string rest r
-    unfolding read_entry
-    no_litres r h e q = refuses r h e (rw (is_minutes, q))
-
-    module _ (litres : ValueRead) (is_litres : read_value litres_range minutes.rest ≡ accepted litres) where
-      pub no_ratio : {m : ℕ} (r : EntryChecked) → (m ≡ 0 → ⊥) → r ≡ no_entry m → read_value ratio_range litres.rest ≡ refused m
-          → Found string rest r
-      unfolding read_entry
-      no_ratio r h e q = refuses r h e (rw (is_minutes, is_litres, q))
-
-      module _ (ratio : ValueRead) (is_ratio : read_value ratio_range litres.rest ≡ accepted ratio) where
-        pub no_product : {m : ℕ} (r : EntryChecked) → (m ≡ 0 → ⊥) → r ≡ no_entry m → read_value product_range ratio.rest ≡ refused m
-            → Found string rest r
-        unfolding read_entry
-        no_product r h e q = refuses r h e (rw (is_minutes, is_litres, is_ratio, q))
-
-        pub all_four : (product next : ℕ) → next ≤ length string
-            → read_value product_range ratio.rest ≡ accepted (record { value = product; rest = drop next string })
-            → Found string rest
-            (record {
-              refusal = 0;
-              entry = record { minutes = minutes.value; litres = litres.value; ratio = ratio.value; product = product };
-              next = next;
-            })
-        unfolding read_entry
-        all_four product next h q = (rw (is_minutes, is_litres, is_ratio, q), h, λ n. absurd (n refl))
-
--- ---- an entry that is accepted
 
 entry_lines : (string : List ℕ)
     → read_entry string ≡ (read_value minutes_range string
@@ -104,11 +57,11 @@ entry_four string found e =
     }))))
 
 -- the four numbers read again are those of the entry
-pub entry_again : (string : List ℕ) (at : ℕ) (minutes litres ratio product : NumberFound)
+pub entry_again : (string : List ℕ) (at : ℕ) (minutes litres ratio product : Found ℕ)
     → NumberReadAgain string at minutes → NumberReadAgain string minutes.next litres → NumberReadAgain string litres.next ratio
     → NumberReadAgain string ratio.next product
     → EntryReadAgain string at (record {
-      entry = record { minutes = minutes.value; litres = litres.value; ratio = ratio.value; product = product.value };
+      value = record { minutes = minutes.value; litres = litres.value; ratio = ratio.value; product = product.value };
       next = product.next;
     })
 entry_again string at minutes litres ratio product is_minutes is_litres is_ratio is_product found e =

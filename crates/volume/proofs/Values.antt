@@ -1,26 +1,27 @@
 -- A number at a place of a string as a value in its range: as it is checked, and as it is read again. Assumes nothing.
 use mathlib.Core.Path.{◌≡◌, refl, sym, ap, ◌∙◌}
-use mathlib.Core.Bool.{Bool, true, false, cond}
+use mathlib.Core.Bool.{Bool, true, false}
 use mathlib.Core.List.{List}
 use Prim.Native.Nat.{ℕ, ◌^◌, ◌<◌, ◌≤◌}
 use native.Mathlib.Omega.{arith}
 use borrow.Author.Tests.{le-leb, lt-leb, leb-true}
 use lib.Dec.{leb}
-use lib.ListN.{length, get_or, drop}
+use lib.ListN.{get_or, drop}
 use Rattle.laws.specs.Result.{Result, refused, accepted, ◌>>=◌, ◌>>◌, refuse◌unless◌}
 use Rattle.laws.proofs.Same.{and_left, and_right}
 use Rattle.laws.proofs.Lists.{drop_below}
 use Rattle.laws.proofs.Results.{no_refusal, accepted_one}
-use Rattle.varint.specs.declared.Read.{Read}
-use Rattle.varint.specs.declared.Read.TheVariants as read
+use Rattle.std.specs.Prelude.{Ok, Err}
+use Rattle.varint.specs.declared.Found.{Found}
+use Rattle.varint.specs.declared.NoNumber.{NoNumber}
+use Rattle.varint.specs.declared.NoNumber.TheVariants as no
 use Rattle.varint.specs.Number.{read_number}
-use Rattle.varint.specs.Place.{reading_of, next_within}
+use Rattle.varint.specs.Place.{reading_of}
 use Rattle.varint.proofs.Reading.{written_read}
-use Rattle.volume.specs.declared.reading.ValueFound.{ValueFound}
-use Rattle.volume.specs.declared.reading.NumberFound.{NumberFound}
-use Rattle.volume.specs.Volume.{Range, ◌to◌, in_range, most_groups}
+use Rattle.volume.specs.declared.Range.{Range}
+use Rattle.volume.specs.Volume.{◌to◌, in_range, most_groups}
 use Rattle.volume.specs.Calls.{ValueRead, number_read, read_value}
-use Rattle.volume.specs.Found.{value_is, no_value, ranged, NumberReadAgain}
+use Rattle.volume.specs.Found.{value_from, NumberReadAgain}
 
 -- a value that is read is in its range
 pub ranged_value : (b : Bool) (read v : ValueRead) → ((refuse 15 unless b) >> accepted read) ≡ accepted v → (b ≡ true) × (read ≡ v)
@@ -52,66 +53,21 @@ range_most range n e = leb-true n range.most (and_right (leb range.least n) _ e)
 pub range_least : (range : Range) (n : ℕ) → in_range range n ≡ true → range.least ≤ n
 range_least range n e = leb-true range.least n (and_left _ (leb n range.most) e)
 
--- ---- checked
-
-module _ (string : List ℕ) (at : ℕ) (range : Range) where
-  -- the answer for what `read_number` reads
-  abbrev pub found : Read → ValueFound
-  found (read.Number value next) = ranged value next range
-  found read.Ended = no_value 16
-  found read.Malformed = no_value 14
-
-  abbrev Found : ValueFound → Type 0
-  Found r =
-      (value_is string r ≡ read_value range (drop at string)) × (r.next ≤ length string) × ((r.refusal ≡ 0 → ⊥) → r ≡ no_value r.refusal)
-
-  -- whether a value is in its range
-  ranged_is : (value next : ℕ) (b : Bool) → next ≤ length string →
-      let r : ValueFound = cond b (record { refusal = 0; value = value; next = next }) (no_value 15) in
-      (value_is string r ≡ ((refuse 15 unless b) >> accepted (record { value = value; rest = drop next string })))
-      × (r.next ≤ length string) × ((r.refusal ≡ 0 → ⊥) → r ≡ no_value r.refusal)
-  ranged_is value next true h = (refl, h, λ n. absurd (n refl))
-  ranged_is value next false h = (refl, omega arith, λ _. refl)
-
-  found_is : (f : Read) → reading_of string f ≡ read_number most_groups (drop at string) → next_within at (length string) f → Found (found f)
-  unfolding read_value ranged
-  found_is (read.Number value next) e w =
-      let h = ranged_is value next (in_range range value) w.1 in
-      (h.0 ∙ rw (sym e), h.1, h.2)
-  found_is read.Ended e w = (rw (sym e), omega arith, λ _. refl)
-  found_is read.Malformed e w = (rw (sym e), omega arith, λ _. refl)
-
-  pub value_found : (r : ValueFound) (f g : Read) → r ≡ found f → g ≡ f
-      → (reading_of string g ≡ read_number most_groups (drop at string)) × next_within at (length string) g → Found r
-  value_found r f g e q h = rw e (found_is f (rw q at h.0) (rw q at h.1))
-
 -- ---- read again
 
 module _ (string : List ℕ) (at : ℕ) where
-  abbrev pub again : Read → NumberFound
-  again (read.Number value next) = record { value = value; next = next }
-  again read.Ended = record { value = 0; next = 0 }
-  again read.Malformed = record { value = 0; next = 0 }
-
-  abbrev Again : NumberFound → Type 0
-  Again r = NumberReadAgain string at r × (r.next ≤ length string)
-
-  again_is : (f : Read) → reading_of string f ≡ read_number most_groups (drop at string) → next_within at (length string) f → Again (again f)
+  pub number_again : (found : Found ℕ) → reading_of string (Ok found) ≡ read_number most_groups (drop at string) → NumberReadAgain string at found
   unfolding read_value
-  again_is (read.Number value next) e w = (
-    λ range found q. sym (ranged_value (in_range range value) (record { value = value; rest = drop next string }) found (rw (sym e) at q)).1,
-    w.1,
-  )
-  again_is read.Ended e w = ((λ range found q. no_refusal (sym (rw (sym e) at q))), omega arith)
-  again_is read.Malformed e w = ((λ range found q. no_refusal (sym (rw (sym e) at q))), omega arith)
+  number_again found e range v q = sym (ranged_value (in_range range found.value) (value_from string found) v (rw (sym e) at q)).1
 
-  pub number_again : (r : NumberFound) (f g : Read) → r ≡ again f → g ≡ f
-      → (reading_of string g ≡ read_number most_groups (drop at string)) × next_within at (length string) g → Again r
-  number_again r f g e q h = rw e (again_is f (rw q at h.0) (rw q at h.1))
+  pub none_again : (no : NoNumber) (found : Found ℕ) → reading_of string (Err no) ≡ read_number most_groups (drop at string) → NumberReadAgain string at found
+  unfolding read_value
+  none_again no.Ended found e range v q = no_refusal (sym (rw (sym e) at q))
+  none_again no.Malformed found e range v q = no_refusal (sym (rw (sym e) at q))
 
 -- a number of three groups fits 32 bits
-pub number_fits : (string : List ℕ) (at value next : ℕ) (g : Read) → ((i : ℕ) → get_or string i 0 < 256) → g ≡ read.Number value next
-    → reading_of string g ≡ read_number most_groups (drop at string) → value < 2 ^ 32
-number_fits string at value next g bytes q e =
-    let w = written_read most_groups (omega arith) (drop at string) value (drop next string) (drop_below at string bytes) (sym (rw q at e)) in
+pub number_fits : (string : List ℕ) (at : ℕ) (found : Found ℕ) → ((i : ℕ) → get_or string i 0 < 256)
+    → reading_of string (Ok found) ≡ read_number most_groups (drop at string) → found.value < 2 ^ 32
+number_fits string at found bytes q =
+    let w = written_read most_groups (omega arith) (drop at string) found.value (drop found.next string) (drop_below at string bytes) (sym q) in
     omega (arith, w.1)

@@ -5,7 +5,8 @@ use Rattle.laws.specs.Lent.{put_first}
 use Rattle.laws.specs.Result.{Result, refused, accepted, Outcome, outcome, ◌>>=◌, ◌>>◌, refuse◌unless◌}
 use Rattle.varint.specs.Number.{Reading, is, ended, malformed, read_number}
 use Rattle.volume.specs.declared.Entry.{Entry}
-use Rattle.volume.specs.Volume.{Range, in_range, count_range, minutes_range, litres_range, ratio_range, product_range, entries_in_range, most_groups, volume_string, numbers_of, entries_of}
+use Rattle.volume.specs.declared.Range.{Range}
+use Rattle.volume.specs.Volume.{in_range, count_range, minutes_range, litres_range, ratio_range, product_range, entries_in_range, most_groups, volume_string, numbers_of, entries_of}
 
 -- ── reading, 'in reading order' ──
 

@@ -1,9 +1,10 @@
 // The shift volume: a count of entries, then the entries, four numbers each. It is read from a string into a lent list, and written from a list into
-// lent bytes. A refused call gives its number, and the lent list or the lent bytes keep their values.
+// lent bytes. Where a call is refused, the lent list or the lent bytes keep their values.
 #![tactic(auto)]
 
 ghost use Rattle.std.specs.Prelude.{◌≡◌};
-ghost use Rattle.laws.specs.Result.{result_of};
+ghost use Rattle.refusal.specs.Told.{told};
+ghost use Rattle.volume.specs.Volume as Volume;
 ghost use Rattle.volume.specs.Calls as Calls;
 ghost use Rattle.volume.specs.Answers as Answers;
 
@@ -11,7 +12,9 @@ pub mod reading;
 mod writing;
 
 use reading::{count_entries, store_entries};
-use writing::{measure_entries, not_written, put_entries};
+use refusal::Refusal;
+use varint::Found;
+use writing::{measure_entries, put_entries};
 
 // The ranges: the most entries, and the most that each number of an entry may be. The least is 0, but for the product, which is 1 at least.
 pub const MOST_ENTRIES: u32 = 2000;
@@ -26,8 +29,49 @@ pub const LEAST_PRODUCT: u32 = 1;
 
 pub const MOST_PRODUCT: u32 = 8;
 
+// The numbers from the least to the most.
+#[derive(Clone, Copy, Debug, PartialEq, Eq)]
+pub struct Range {
+    pub least: u32,
+    pub most: u32,
+}
+
+pub const COUNT: Range = Range {
+    least: 0,
+    most: MOST_ENTRIES,
+};
+
+pub const MINUTES: Range = Range {
+    least: 0,
+    most: MOST_MINUTES,
+};
+
+pub const LITRES: Range = Range {
+    least: 0,
+    most: MOST_LITRES,
+};
+
+pub const RATIO: Range = Range {
+    least: 0,
+    most: MOST_RATIO,
+};
+
+pub const PRODUCT: Range = Range {
+    least: LEAST_PRODUCT,
+    most: MOST_PRODUCT,
+};
+
+impl Range {
+    // Whether a number is in the range.
+    pub fn contains(self, n: u32) -> bool
+        ensures { result ≡ Volume.in_range self n }
+    {
+        self.least <= n && n <= self.most
+    }
+}
+
 // An entry: minutes since the previous entry, litres, ratio in hundredths of a percent, product.
-#[derive(Clone, Copy)]
+#[derive(Clone, Copy, Debug, PartialEq, Eq)]
 pub struct Entry {
     pub minutes: u32,
     pub litres: u32,
@@ -35,7 +79,7 @@ pub struct Entry {
     pub product: u32,
 }
 
-// The answer of reading: the refusal number, 0 where the volume is accepted, and the count of its entries, 0 where it is refused.
+// The answer of reading for C: the refusal number, 0 where the volume is accepted, and the count of its entries, 0 where it is refused.
 #[repr(C)]
 #[derive(Clone, Copy)]
 pub struct CountAnswer {
@@ -43,7 +87,18 @@ pub struct CountAnswer {
     pub count: usize,
 }
 
-// The answer of writing: the refusal number, 0 where the list is accepted, and the length of the volume, 0 where it is refused.
+impl From<Result<usize, Refusal>> for CountAnswer {
+    ghost from_gives = { λ answer given. given ≡ Answers.count_answer answer };
+
+    fn from(answer: Result<usize, Refusal>) -> CountAnswer {
+        CountAnswer {
+            refusal: refusal::number_of(answer),
+            count: answer.unwrap_or(0),
+        }
+    }
+}
+
+// The answer of writing for C: the refusal number, 0 where the list is accepted, and the length of the volume, 0 where it is refused.
 #[repr(C)]
 #[derive(Clone, Copy)]
 pub struct LengthAnswer {
@@ -51,68 +106,55 @@ pub struct LengthAnswer {
     pub length: usize,
 }
 
-// Whether a string is a volume: 0, or reading's refusal number, which is never 8.
-pub fn check_volume(string: &[u8]) -> u64
-    ensures { result_of result tt ≡ Calls.check_volume string.now }
-{
-    let found = count_entries(string);
-    found.refusal
+impl From<Result<usize, Refusal>> for LengthAnswer {
+    ghost from_gives = { λ answer given. given ≡ Answers.length_answer answer };
+
+    fn from(answer: Result<usize, Refusal>) -> LengthAnswer {
+        LengthAnswer {
+            refusal: refusal::number_of(answer),
+            length: answer.unwrap_or(0),
+        }
+    }
 }
 
-fn not_read(refusal: u64) -> CountAnswer
-    ensures { result ≡ record { refusal = refusal; count = 0 } }
+// Whether a string is a volume; the refusal is never `LittleRoom`.
+pub fn check_volume(string: &[u8]) -> Result<(), Refusal>
+    ensures { told result ≡ Calls.check_volume string.now }
 {
-    CountAnswer {
-        refusal: refusal,
-        count: 0,
-    }
+    count_entries(string)?;
+    Ok(())
 }
 
 // Reads a volume: puts its entries at the start of the lent list, four numbers each, and gives their count; later elements stay.
-pub fn read_volume(string: &[u8], list: &mut [u32]) -> CountAnswer
-    ensures { Answers.volume_read result list.new ≡ Calls.read_volume_call string.now list.old }
+pub fn read_volume(string: &[u8], list: &mut [u32]) -> Result<usize, Refusal>
+    ensures { Answers.read_gives result list.new ≡ Calls.read_volume_call string.now list.old }
 {
-    let found = count_entries(string);
-    let refusal = found.refusal;
-    if refusal != 0 {
-        return not_read(refusal);
-    }
-    let n = found.count;
+    let found = count_entries(string)?;
+    let n = found.value;
     if list.len() < 4 * n {
-        return not_read(8);
+        return Err(Refusal::LittleRoom);
     }
-    store_entries(string, found.first, n, list);
-    CountAnswer {
-        refusal: 0,
-        count: n,
-    }
+    store_entries(string, found.next, n, list);
+    Ok(n)
 }
 
 // Writes a volume: puts the volume of the entries at the start of the lent bytes, and gives its length; later bytes stay.
-pub fn write_volume(list: &[u32], lent: &mut [u8]) -> LengthAnswer
-    ensures { Answers.volume_written result lent.new ≡ Calls.write_volume_call list.now lent.old }
+pub fn write_volume(list: &[u32], lent: &mut [u8]) -> Result<usize, Refusal>
+    ensures { Answers.write_gives result lent.new ≡ Calls.write_volume_call list.now lent.old }
 {
     let numbers = list.len();
     if numbers % 4 != 0 {
-        return not_written(16);
+        return Err(Refusal::VolumeEnds);
     }
     let n = numbers / 4;
-    if (MOST_ENTRIES as usize) < n {
-        return not_written(15);
+    if n > MOST_ENTRIES as usize {
+        return Err(Refusal::VolumeRange);
     }
-    let measured = measure_entries(list, n);
-    let refusal = measured.refusal;
-    if refusal != 0 {
-        return not_written(refusal);
-    }
-    let length = varint::count_groups(n as u64) + measured.length;
+    let length = varint::count_groups(n as u64) + measure_entries(list, n)?;
     if lent.len() < length {
-        return not_written(8);
+        return Err(Refusal::LittleRoom);
     }
     let first = varint::write_number(n as u64, lent, 0);
     put_entries(list, n, lent, first);
-    LengthAnswer {
-        refusal: 0,
-        length: length,
-    }
+    Ok(length)
 }

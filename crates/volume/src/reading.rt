@@ -1,236 +1,118 @@
 // Reading: every number is checked first, and nothing is stored before the whole volume has been read; then the numbers are read again and stored.
-ghost use Rattle.std.specs.Prelude.{◌≡◌, ◌+◌, ◌*◌, ◌≤◌, ◌<◌, length, drop};
+ghost use Rattle.std.specs.Prelude.{◌≡◌, ◌+◌, ◌*◌, ◌≤◌, ◌<◌, length, drop, IfOk};
 ghost use Rattle.std.proofs.lemmas.List.Edits.{sets};
-ghost use Rattle.laws.specs.Result.{result_of};
+ghost use Rattle.refusal.specs.Told.{told, told_as};
 ghost use Rattle.volume.specs.Volume as Volume;
 ghost use Rattle.volume.specs.Calls as Calls;
-ghost use Rattle.volume.specs.Found as Found;
+ghost use Rattle.volume.specs.Found.{value_from, entry_from, entries_only, count_in, Begins, NumberReadAgain, EntryReadAgain, Stored};
 
-use crate::{
-    Entry, LEAST_PRODUCT, MOST_ENTRIES, MOST_LITRES, MOST_MINUTES, MOST_PRODUCT, MOST_RATIO,
-};
-use varint::Read;
-
-// A value that was found, with refusal 0, and the place after it; or the refusal number, with 0 for both.
-#[derive(Clone, Copy)]
-pub struct ValueFound {
-    pub refusal: u64,
-    pub value: u32,
-    pub next: usize,
-}
-
-// An entry that was checked, with refusal 0, and the place after it; or the refusal number, with 0 for its numbers and the place.
-#[derive(Clone, Copy)]
-pub struct EntryChecked {
-    pub refusal: u64,
-    pub entry: Entry,
-    pub next: usize,
-}
-
-// The count of a volume's entries, with refusal 0, and the place of the first; or the refusal number, with 0 for both.
-#[derive(Clone, Copy)]
-pub struct CountFound {
-    pub refusal: u64,
-    pub count: usize,
-    pub first: usize,
-}
-
-// A number of a volume that has been checked, and the place after it.
-#[derive(Clone, Copy)]
-pub struct NumberFound {
-    pub value: u32,
-    pub next: usize,
-}
-
-// An entry of a volume that has been checked, and the place after it.
-#[derive(Clone, Copy)]
-pub struct EntryFound {
-    pub entry: Entry,
-    pub next: usize,
-}
-
-fn no_value(refusal: u64) -> ValueFound
-    ensures { result ≡ Found.no_value refusal }
-{
-    ValueFound {
-        refusal: refusal,
-        value: 0,
-        next: 0,
-    }
-}
-
-// A number that was read, or 15 where it is out of its range.
-fn ranged(value: u64, next: usize, least: u32, most: u32) -> ValueFound
-    ensures { result ≡ Found.ranged value next (Volume.◌to◌ least most) }
-{
-    if value < least as u64 {
-        return no_value(15);
-    }
-    if (most as u64) < value {
-        return no_value(15);
-    }
-    ValueFound {
-        refusal: 0,
-        value: value as u32,
-        next: next,
-    }
-}
+use crate::{COUNT, Entry, LITRES, MINUTES, PRODUCT, RATIO, Range};
+use refusal::Refusal;
+use varint::{Found, NoNumber};
 
 // The number from place `at` on, which is to be in a range.
-pub fn read_value(string: &[u8], at: usize, least: u32, most: u32) -> ValueFound
+pub fn read_value(string: &[u8], at: usize, range: Range) -> Result<Found<u32>, Refusal>
     requires { at ≤ length string.now }
-    ensures { (Found.value_is string.now result ≡ Calls.read_value (Volume.◌to◌ least most) (drop at string.now))
-        × (result.next ≤ length string.now) × ((result.refusal ≡ 0 → ⊥) → result ≡ Found.no_value result.refusal) }
+    ensures value { told_as (value_from string.now) result ≡ Calls.read_value range (drop at string.now) }
+    ensures within { IfOk result (λ found. found.next ≤ length string.now) }
 {
-    let read = varint::read_number(string, at, 3);
-    match read {
-        Read::Number { value, next } => ranged(value, next, least, most),
-        Read::Ended => no_value(16),
-        Read::Malformed => no_value(14),
+    let read = match varint::read_number(string, at, 3) {
+        Ok(read) => read,
+        Err(NoNumber::Ended) => return Err(Refusal::VolumeEnds),
+        Err(NoNumber::Malformed) => return Err(Refusal::VolumeNumber),
+    };
+    let value = read.value as u32;
+    if !range.contains(value) {
+        return Err(Refusal::VolumeRange);
     }
-}
-
-// The entry of four numbers.
-fn entry_of(minutes: u32, litres: u32, ratio: u32, product: u32) -> Entry
-    ensures { result ≡ record { minutes = minutes; litres = litres; ratio = ratio; product = product } }
-{
-    Entry {
-        minutes: minutes,
-        litres: litres,
-        ratio: ratio,
-        product: product,
-    }
-}
-
-fn no_entry(refusal: u64) -> EntryChecked
-    ensures { result ≡ Found.no_entry refusal }
-{
-    EntryChecked {
-        refusal: refusal,
-        entry: Entry {
-            minutes: 0,
-            litres: 0,
-            ratio: 0,
-            product: 0,
-        },
-        next: 0,
-    }
+    Ok(Found {
+        value: value,
+        next: read.next,
+    })
 }
 
 // The entry from place `at` on, each number of which is to be in its range.
-pub fn check_entry(string: &[u8], at: usize) -> EntryChecked
+pub fn check_entry(string: &[u8], at: usize) -> Result<Found<Entry>, Refusal>
     requires { at ≤ length string.now }
-    ensures { (Found.entry_is string.now result ≡ Calls.read_entry (drop at string.now))
-        × (result.next ≤ length string.now) × ((result.refusal ≡ 0 → ⊥) → result ≡ Found.no_entry result.refusal) }
+    ensures entry { told_as (entry_from string.now) result ≡ Calls.read_entry (drop at string.now) }
+    ensures within { IfOk result (λ found. found.next ≤ length string.now) }
 {
-    let minutes = read_value(string, at, 0, MOST_MINUTES);
-    let minutes_refusal = minutes.refusal;
-    if minutes_refusal != 0 {
-        return no_entry(minutes_refusal);
-    }
-    let litres = read_value(string, minutes.next, 0, MOST_LITRES);
-    let litres_refusal = litres.refusal;
-    if litres_refusal != 0 {
-        return no_entry(litres_refusal);
-    }
-    let ratio = read_value(string, litres.next, 0, MOST_RATIO);
-    let ratio_refusal = ratio.refusal;
-    if ratio_refusal != 0 {
-        return no_entry(ratio_refusal);
-    }
-    let product = read_value(string, ratio.next, LEAST_PRODUCT, MOST_PRODUCT);
-    let product_refusal = product.refusal;
-    if product_refusal != 0 {
-        return no_entry(product_refusal);
-    }
-    EntryChecked {
-        refusal: 0,
-        entry: entry_of(minutes.value, litres.value, ratio.value, product.value),
+    let minutes = read_value(string, at, MINUTES)?;
+    let litres = read_value(string, minutes.next, LITRES)?;
+    let ratio = read_value(string, litres.next, RATIO)?;
+    let product = read_value(string, ratio.next, PRODUCT)?;
+    Ok(Found {
+        value: Entry {
+            minutes: minutes.value,
+            litres: litres.value,
+            ratio: ratio.value,
+            product: product.value,
+        },
         next: product.next,
-    }
+    })
 }
 
-fn no_count(refusal: u64) -> CountFound
-    ensures { result ≡ record { refusal = refusal; count = 0; first = 0 } }
-{
-    CountFound {
-        refusal: refusal,
-        count: 0,
-        first: 0,
-    }
-}
-
-// Whether n entries stand from place `first` on and nothing after them: 0, or the refusal number.
-fn check_entries(string: &[u8], first: usize, n: usize) -> u64
+// Whether n entries stand from place `first` on and nothing after them.
+fn check_entries(string: &[u8], first: usize, n: usize) -> Result<(), Refusal>
     requires { first ≤ length string.now }
-    ensures { result_of result tt ≡ Found.entries_only (λ _. tt {0}) n (drop first string.now) }
+    ensures { told result ≡ entries_only (λ _. tt {0}) n (drop first string.now) }
 {
     let mut at = first;
-    let mut k = 0;
-    while k < n {
-        let found = check_entry(string, at);
-        let refusal = found.refusal;
-        if refusal != 0 {
-            return refusal;
-        }
+    for k in 0..n {
+        let found = check_entry(string, at)?;
         at = found.next;
-        k += 1;
     }
     if at != string.len() {
-        return 16;
+        return Err(Refusal::VolumeEnds);
     }
-    0
+    Ok(())
 }
 
-// The count of the entries of a volume, once the whole volume has been read.
-pub fn count_entries(string: &[u8]) -> CountFound
-    ensures { Found.CountIs string.now result }
+// The count of the entries of a volume, once the whole volume has been read, and the place of the first.
+pub fn count_entries(string: &[u8]) -> Result<Found<usize>, Refusal>
+    ensures count { told_as (λ found. found.value) result ≡ count_in string.now }
+    ensures begins { IfOk result (λ found. Begins string.now found) }
 {
-    let count = read_value(string, 0, 0, MOST_ENTRIES);
-    let count_refusal = count.refusal;
-    if count_refusal != 0 {
-        return no_count(count_refusal);
-    }
+    let count = read_value(string, 0, COUNT)?;
     let n = count.value as usize;
     let first = count.next;
-    let refusal = check_entries(string, first, n);
-    if refusal != 0 {
-        return no_count(refusal);
-    }
-    CountFound {
-        refusal: 0,
-        count: n,
-        first: first,
-    }
+    check_entries(string, first, n)?;
+    Ok(Found {
+        value: n,
+        next: first,
+    })
 }
 
 // The number from place `at` on, of a volume that has been checked.
-fn number_at(string: &[u8], at: usize) -> NumberFound
+fn number_at(string: &[u8], at: usize) -> Found<u32>
     requires { at ≤ length string.now }
-    ensures { Found.NumberReadAgain string.now at result × (result.next ≤ length string.now) }
+    ensures { NumberReadAgain string.now at result × (result.next ≤ length string.now) }
 {
-    let read = varint::read_number(string, at, 3);
-    match read {
-        Read::Number { value, next } => NumberFound {
-            value: value as u32,
-            next: next,
+    match varint::read_number(string, at, 3) {
+        Ok(found) => Found {
+            value: found.value as u32,
+            next: found.next,
         },
-        Read::Ended => NumberFound { value: 0, next: 0 },
-        Read::Malformed => NumberFound { value: 0, next: 0 },
+        Err(_) => Found { value: 0, next: 0 },
     }
 }
 
 // The entry from place `at` on, of a volume that has been checked.
-pub fn read_entry(string: &[u8], at: usize) -> EntryFound
+pub fn read_entry(string: &[u8], at: usize) -> Found<Entry>
     requires { at ≤ length string.now }
-    ensures { Found.EntryReadAgain string.now at result × (result.next ≤ length string.now) }
+    ensures { EntryReadAgain string.now at result × (result.next ≤ length string.now) }
 {
     let minutes = number_at(string, at);
     let litres = number_at(string, minutes.next);
     let ratio = number_at(string, litres.next);
     let product = number_at(string, ratio.next);
-    EntryFound {
-        entry: entry_of(minutes.value, litres.value, ratio.value, product.value),
+    Found {
+        value: Entry {
+            minutes: minutes.value,
+            litres: litres.value,
+            ratio: ratio.value,
+            product: product.value,
+        },
         next: product.next,
     }
 }
@@ -249,14 +131,12 @@ fn store_entry(entry: Entry, list: &mut [u32], at: usize)
 // Puts the n entries from place `first` on at the start of the lent list; later elements stay.
 pub fn store_entries(string: &[u8], first: usize, n: usize, list: &mut [u32])
     requires { (first ≤ length string.now) × (4 * n ≤ length list.old) × (n ≤ 2000) }
-    ensures { Found.Stored n (drop first string.now) list.old list.new }
+    ensures { Stored n (drop first string.now) list.old list.new }
 {
     let mut at = first;
-    let mut k = 0;
-    while k < n {
+    for k in 0..n {
         let found = read_entry(string, at);
-        store_entry(found.entry, list, 4 * k);
+        store_entry(found.value, list, 4 * k);
         at = found.next;
-        k += 1;
     }
 }

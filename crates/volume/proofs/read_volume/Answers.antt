@@ -1,30 +1,26 @@
 -- `volume::read_volume` meets its contract: the volume is counted first, and stored then.
 use Rattle.std.proofs.Common.{arith}
+use Rattle.std.proofs.lemmas.Result.{err_from_is_err_and}
 use Rattle.volume.specs.Calls.{read_volume_call}
 use Rattle.volume.proofs.Volumes.{reads_refused, reads_short, reads_all}
 use Rattle.volume.proofs.read_volume.Goals as goal
 
-pub returns-then-refusal-ne0 : goal.returns-then-refusal-ne0
+pub returns-in_err-found : goal.returns-in_err-found
 unfolding read_volume_call
-returns-then-refusal-ne0 c =
+returns-in_err-found c =
     let a = c.args in
-    let count = c.count_entries-found in
-    rw (c.not_read.ensures, reads_refused a.string.now count.result count.ensures a.list.now c.if-refusal-ne0.true)
+    let p = err_from_is_err_and c.from_residual.result c.from_residual.ensures.1 in
+    rw (p.1, p.2, reads_refused a.string.now a.list.now _ c.in_err-found.ensures.count)
 
 pub returns-then-list-n : goal.returns-then-list-n
 unfolding read_volume_call
 returns-then-list-n c =
     let a = c.args in
-    let count = c.count_entries-found in
-    rw (
-      c.not_read-then-list-n.ensures,
-      reads_short a.string.now count.result count.ensures a.list.now c.if-refusal-ne0.false c.if-list-n.true,
-    )
+    rw (reads_short a.string.now a.list.now c.in_ok-found.found c.in_ok-found.ensures.count c.if-list-n.true)
 
 pub returns : goal.returns
 unfolding read_volume_call
 returns c =
     let a = c.args in
-    let count = c.count_entries-found in
-    rw (reads_all a.string.now count.result count.ensures a.list.now _ c.if-refusal-ne0.false
-    (omega arith) c.store_entries.ensures)
+    let found = c.in_ok-found.ensures in
+    rw (reads_all a.string.now a.list.now c.in_ok-found.found found.count _ found.begins (omega arith) c.store_entries.ensures)

@@ -8,8 +8,7 @@ returns c =
     let minutes = c.number_at-minutes in
     let litres = c.number_at-litres in
     let ratio = c.number_at-ratio in
-    let product = c.number_at-product in
-    rw c.entry_of.ensures (
+    let product = c.number_at-product in (
       entry_again a.string.now a.at minutes.result litres.result ratio.result product.result
           minutes.ensures.0 litres.ensures.0 ratio.ensures.0 product.ensures.0,
       product.ensures.1,

@@ -1,19 +1,25 @@
 -- `volume::reading::read_value` meets its contract: what `read_number` reads, in its range.
-use Rattle.volume.specs.Volume.{◌to◌}
-use Rattle.volume.proofs.Values.{value_found}
+use Rattle.std.proofs.Common.{sym, ◌∙◌, arith}
+use Rattle.volume.specs.Calls.{read_value}
+use Rattle.volume.proofs.Values.{number_fits}
 use Rattle.volume.proofs.reading.read_value.Goals as goal
 
-pub returns-in-Number : goal.returns-in-Number
-returns-in-Number c =
-    let a = c.args in
-    value_found a.string.now a.at (a.least to a.most) _ _ _ c.ranged.ensures c.in-Number.is c.read_number-read.ensures
+pub returns-in-Err-Ended-clause-value : goal.returns-in-Err-Ended-clause-value
+unfolding read_value
+returns-in-Err-Ended-clause-value c = rw (sym c.in-Err-Ended.ensures.0, c.in-Err-Ended.field-0-is)
 
-pub returns-in-Ended : goal.returns-in-Ended
-returns-in-Ended c =
-    let a = c.args in
-    value_found a.string.now a.at (a.least to a.most) _ _ _ c.no_value.ensures c.in-Ended.is c.read_number-read.ensures
+pub returns-in-Err-Malformed-clause-value : goal.returns-in-Err-Malformed-clause-value
+unfolding read_value
+returns-in-Err-Malformed-clause-value c = rw (sym c.in-Err-Malformed.ensures.0, c.in-Err-Malformed.field-0-is)
 
-pub returns-in-Malformed : goal.returns-in-Malformed
-returns-in-Malformed c =
-    let a = c.args in
-    value_found a.string.now a.at (a.least to a.most) _ _ _ c.no_value-in-Malformed.ensures c.in-Malformed.is c.read_number-read.ensures
+pub overflow_cast-value : goal.overflow_cast-value
+overflow_cast-value c =
+    omega (arith, number_fits c.args.string.now c.args.at c.in-Ok.read (λ i. let b = c.type_inv.string i in omega arith) c.in-Ok.ensures.0)
+
+pub returns-then-not-contains-clause-value : goal.returns-then-not-contains-clause-value
+unfolding read_value
+returns-then-not-contains-clause-value c = rw (sym c.in-Ok.ensures.0, sym c.contains.ensures ∙ c.if-not-contains.true)
+
+pub returns-clause-value : goal.returns-clause-value
+unfolding read_value
+returns-clause-value c = rw (sym c.in-Ok.ensures.0, sym c.contains.ensures ∙ c.if-not-contains.false)

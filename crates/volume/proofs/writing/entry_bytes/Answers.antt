@@ -4,6 +4,4 @@ use Rattle.volume.proofs.Measuring.{entry_length}
 use Rattle.volume.proofs.writing.entry_bytes.Goals as goal
 
 pub returns : goal.returns
-returns c =
-    let e = entry_length c.args.entry in
-    (omega arith, omega arith)
+returns c = let e = entry_length c.args.entry in grind (arith, e)

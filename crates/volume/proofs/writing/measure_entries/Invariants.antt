@@ -1,10 +1,7 @@
 -- The loop of `volume::writing::measure_entries` keeps `Measured`.
-use Rattle.std.proofs.Common.{◌*◌, ◌-◌, ◌≤◌}
+use Rattle.std.proofs.Common.{◌*◌, ◌≤◌}
 use Rattle.volume.proofs.Measuring.{Measured}
 use Rattle.volume.proofs.writing.measure_entries.Given as goal
 
 abbrev pub invariant-loop-k : goal.invariant-loop-k
-invariant-loop-k l = (l.k ≤ l.n) × (l.length ≤ 40 * l.k) × Measured l.list l.k l.length
-
-abbrev pub decreases-loop-k : goal.decreases-loop-k
-decreases-loop-k l = l.n - l.k
+invariant-loop-k l = (l.length ≤ 40 * l.k) × Measured l.list l.k l.length
