@@ -3,11 +3,11 @@
 use mathlib.Core.Path.{◌≡◌, refl, sym, ap, ◌∙◌}
 use mathlib.Core.List.{List, ◌++◌, append_assoc}
 use mathlib.Core.Logic.{⊎_elim}
-use Prim.Native.Nat.{ℕ, ◌+◌, ◌-◌, ◌*◌, ◌/◌, ◌%◌, ◌≤◌, ◌<◌}
+use Prim.Native.Nat.{ℕ, ◌+◌, ◌-◌, ◌/◌, ◌≤◌, ◌<◌}
 use native.Mathlib.Nat.{zero-add, eq-or-lt_of_le}
 use native.Mathlib.Omega.{arith}
 use lib.ListN.{length, get_or, set, take, drop, length-append, length-set, length-drop, take-append-drop}
-use lib.Seq.{get_or-set_same, get_or-set_other, get_or-drop, get_or-take, length-take-le, take_all, take_at, drop_at, drop-append-le, drop-append-add, take-set-le}
+use lib.Seq.{get_or-set_same, get_or-set_other, get_or-drop, get_or-take, length-take-le, take_at, drop_at, drop-append-le, drop-append-add, take-set-le}
 use Rattle.laws.proofs.Lists.{below_or_not}
 use Rattle.cipher.specs.declared.Cipher.{Cipher}
 use Rattle.cipher.specs.Numbers.{table_length, area_length, expansion_length}
@@ -98,10 +98,8 @@ run_append u v a n m long last p q =
     (rw (drop-append-le m u a (omega arith), ← last) q)
 
 -- thirty-two words are sixteen and sixteen more
-pub run_two : (l w r : List ℕ) (n : ℕ) → length l ≡ 32 → take 16 l ≡ w → r ≡ take 16 (drop 16 l) → Run n l → Run n (w ++ r)
-run_two l w r n long first second p =
-    let d : take 16 (drop 16 l) ≡ drop 16 l = take_all 16 (drop 16 l) (rw (length-drop, long) (omega arith)) in
-    rw (second, d, ← first, take-append-drop) p
+pub run_two : (l w r : List ℕ) (n : ℕ) → take 16 l ≡ w → r ≡ drop 16 l → Run n l → Run n (w ++ r)
+run_two l w r n first second p = rw (second, ← first, take-append-drop) p
 
 -- the words of a, made of its first sixteen, and those made of the sixteen words before it
 pub run_more : (w f a : List ℕ) (n : ℕ) → length w ≡ 16 → length f ≡ 16 → take 16 a ≡ f → Run n (w ++ f) → Run (n + 16) a → Run n (w ++ a)
@@ -111,16 +109,7 @@ run_more w f a n long short first p q =
     run_append (w ++ f) f (drop 16 a) n 16 (rw (length-append, long, short)) (sym (drop_at w f 16 long)) p (rw e q) in
     rw (append_assoc, e) at r
 
--- a run and its last sixteen words, at the start of a longer list
-pub run_front : (w l x r : List ℕ) (n k : ℕ) → length l ≡ k → Run n (w ++ l) → r ≡ drop (length l - 16) l
-    → Run n (w ++ take k (l ++ x)) × (r ≡ drop (k - 16) (take k (l ++ x)))
-run_front w l x r n k long p q = rw (take_at l x k long) (p, rw long at q)
-
 -- ---- an area
-
--- the words before W(T/2) but for W0..15, and those from W(T/2) on, are fours
-pub fours : (half all : ℕ) → half % 4 ≡ 0 → 32 ≤ half → all ≡ 5 * half → ((half - 16) % 4 ≡ 0) × ((all - half) % 4 ≡ 0)
-fours half all e l a = omega arith
 
 -- the words before W(T/2), which are made of W0..15, and the area's, which are made of the last sixteen of them
 module _ (c : Cipher) (w b v a : List ℕ) (sixteen : length w ≡ 16) (short : length b ≡ table_length c / 2 - 16) (long : length a ≡ area_length c) where

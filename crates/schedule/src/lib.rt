@@ -17,20 +17,16 @@ use cipher::Cipher;
 fn next_word(w2: u32, w7: u32, w15: u32, w16: u32, i: u32) -> u32
     ensures { result ≡ Word.f2 w2 ⊞ w7 ⊞ Word.f1 w15 ⊞ w16 ⊞ i }
 {
-    word::sum(
-        word::sum(word::sum(word::sum(word::f2(w2), w7), word::f1(w15)), w16),
-        i,
-    )
+    let earlier = word::sum(word::sum(word::sum(word::f2(w2), w7), word::f1(w15)), w16);
+    word::sum(earlier, i)
 }
 
 // W(i-16), from Wi, W(i-2), W(i-7), W(i-15) and i.
 fn previous_word(w: u32, w2: u32, w7: u32, w15: u32, i: u32) -> u32
     ensures { result ≡ w ⊟ (Word.f2 w2 ⊞ w7 ⊞ Word.f1 w15 ⊞ i) }
 {
-    word::difference(
-        w,
-        word::sum(word::sum(word::sum(word::f2(w2), w7), word::f1(w15)), i),
-    )
+    let added = word::sum(word::sum(word::f2(w2), w7), word::f1(w15));
+    word::difference(w, word::sum(added, i))
 }
 
 // The window n words back; the last that is undone is Wi.
@@ -57,14 +53,6 @@ fn half_table(cipher: Cipher) -> usize
     ensures { Window.IsHalf cipher result }
 {
     cipher.table_words() / 2
-}
-
-// Sixteen words from place k on.
-fn sixteen_from(words: &[u32], k: usize) -> [u32; 16]
-    requires { k + 16 ≤ length words.now }
-    ensures { result ≡ take 16 (drop k words.now) }
-{
-    <[u32; 16]>::try_from(&words[k..k + 16]).unwrap()
 }
 
 // The word at place k, made of words before it, where the first word is Wn and w2 the word at place k - 2.
@@ -109,7 +97,7 @@ fn sixteen_more(w: [u32; 16], n: usize) -> [u32; 16]
     let mut words = [0u32; 32];
     words[..16].copy_from_slice(&w);
     go_on(&mut words, n);
-    sixteen_from(&words, 16)
+    *words.last_chunk().unwrap()
 }
 
 // Fills the area with the words after the sixteen words w, whose first is Wn, and hands back the last sixteen.
@@ -120,15 +108,7 @@ fn expand(w: [u32; 16], n: usize, area: &mut [u32]) -> [u32; 16]
     let first = sixteen_more(w, n);
     area[..16].copy_from_slice(&first);
     go_on(area, n + 16);
-    sixteen_from(area, area.len() - 16)
-}
-
-// Lays the `count` words after the sixteen words w, whose first is Wn, at the start of the area, and hands back the last sixteen.
-fn expand_into(w: [u32; 16], n: usize, count: usize, area: &mut [u32]) -> [u32; 16]
-    requires { (16 ≤ count) × (count % 4 ≡ 0) × (count ≤ length area.old) × (n + 16 + count ≤ 4096) }
-    ensures { Window.Run n (w ++ take count area.new) × (result ≡ drop (count - 16) (take count area.new)) }
-{
-    expand(w, n, &mut area[..count])
+    *area.last_chunk().unwrap()
 }
 
 // Fills the area with the expansion of W0..15 from W(T/2) on; the words before W(T/2) are made in the area and do not stay.
@@ -137,8 +117,8 @@ pub fn fill(cipher: Cipher, w: [u32; 16], area: &mut [u32])
     ensures { area.new ≡ Expansion.filled cipher w }
 {
     let half = half_table(cipher);
-    let v = expand_into(w, 0, half - 16, area);
-    expand_into(v, half - 16, cipher.expansion_words() - half, area);
+    let v = expand(w, 0, &mut area[..half - 16]);
+    expand(v, half - 16, area);
 }
 
 // Whether all of the area is the expansion of the words that it leads back to: from the seventeenth on, each is made of those before it.
@@ -162,7 +142,7 @@ pub fn origin(cipher: Cipher, area: &[u32]) -> Option<[u32; 16]>
     ensures { result ≡ Origin.if_filled cipher area.now }
 {
     let half = half_table(cipher);
-    let words = unexpand(sixteen_from(area, 0), 16, half);
+    let words = unexpand(*area.first_chunk().unwrap(), 16, half);
     let filled = is_expansion(cipher, area) & keys::doubled(cipher, words);
     filled.then_some(words)
 }

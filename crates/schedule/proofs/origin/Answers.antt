@@ -1,5 +1,5 @@
 -- The first window, moved back, is the area's origin.
-use Rattle.std.proofs.Common.{◌≡◌}
+use Rattle.std.proofs.Common.{◌≡◌, refl}
 use Rattle.schedule.specs.Origin.{origin, is_filled}
 use Rattle.schedule.proofs.Window.{origin_window}
 use Rattle.schedule.proofs.origin.Goals as goal
@@ -7,6 +7,7 @@ use Rattle.schedule.proofs.origin.Goals as goal
 pub returns : goal.returns
 unfolding is_filled
 returns c =
+    let first = rw c.unwrap.ensures at c.first_chunk.ensures.cases in
     let w : c.unexpand-words.result ≡ origin c.args.cipher c.args.area.now =
-    origin_window c.args.cipher c.args.area.now _ _ _ c.requires c.half_table-half.ensures.0 c.sixteen_from.ensures c.unexpand-words.ensures in
-    rw (c.then_some.ensures, c.doubled.ensures, c.is_expansion.ensures, w)
+    origin_window c.args.cipher c.args.area.now _ _ _ c.requires c.half_table-half.ensures.0 first.same c.unexpand-words.ensures in
+    rw (c.then_some.ensures, c.doubled.ensures, c.is_expansion.ensures, w) refl

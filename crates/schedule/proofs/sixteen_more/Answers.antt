@@ -8,5 +8,6 @@ pub returns : goal.returns
 returns c =
     let n : length c.args.w ≡ 16 = search rules in
     let long : length c.go_on.new.words ≡ 32 = search rules in
-    let e = c.copy_from_slice.ensures.after in
-    run_two c.go_on.new.words _ _ _ long (rw e at c.go_on.ensures.0 ∙ take_at _ _ 16 n) c.sixteen_from.ensures c.go_on.ensures.1
+    let first = rw c.copy_from_slice.ensures.after at c.go_on.ensures.0 in
+    let last = rw (c.unwrap.ensures, long) at c.last_chunk.ensures.cases in
+    run_two c.go_on.new.words _ _ _ (first ∙ take_at _ _ 16 n) last.1.same c.go_on.ensures.1
