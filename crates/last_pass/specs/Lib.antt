@@ -1,1 +1,2 @@
 pub mod LastPass
+pub mod ByPlace

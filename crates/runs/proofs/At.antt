@@ -13,10 +13,10 @@ use Rattle.cipher.specs.declared.Cipher.TheVariants.{Hc128, Hc256}
 use Rattle.cipher.specs.Numbers.{table_length, area_length}
 use Rattle.functions.specs.ByCipher.{feedback_of, h_of, filter_of}
 use Rattle.tables.specs.Area.{changes_p, start_a}
-use Rattle.tables.specs.Step.{feedback, filter, place, step, step_back}
+use Rattle.tables.specs.Step.{feedback, filter, place}
 use Rattle.tables.proofs.Places.{place_is}
-use Rattle.tables.proofs.Turns.{same_step, same_step_back}
 use Rattle.runs.specs.Run.{Run, At}
+use Rattle.runs.specs.Change.{ByPlace}
 
 -- A[j-m] stands m places before A[j], and A[j+1] one place after it
 before : (c : Cipher) {s : List ℕ} {p : Bool} (k m : ℕ) → At c s p k → 0 < m → m ≤ 12
@@ -82,9 +82,9 @@ same_place_later : (c : Cipher) (i m : ℕ) {k : ℕ} → k ≡ place c i → (k
 same_place_later Hc128 i m e = omega (arith, e, place_is Hc128 i)
 same_place_later Hc256 i m e = omega (arith, e, place_is Hc256 i)
 
-module _ (c : Cipher) (i : ℕ) {k : ℕ} (e : k ≡ place c i) (s : List ℕ) (m : ℕ) where
-  pub step_at_place : {t : List ℕ} → t ≡ step c s (k + m) → t ≡ step c s (i + m)
-  step_at_place f = f ∙ same_step c s _ _ (same_place_later c i m e)
+module _ {c : Cipher} {f g : List ℕ → ℕ → List ℕ} (b : ByPlace c f g) (i : ℕ) {k : ℕ} (e : k ≡ place c i) (s : List ℕ) (m : ℕ) where
+  pub forth_at_place : {t : List ℕ} → t ≡ f s (k + m) → t ≡ f s (i + m)
+  forth_at_place q = q ∙ b.forth_same s _ _ (same_place_later c i m e)
 
-  pub step_back_at_place : {t : List ℕ} → t ≡ step_back c s (k + m) → t ≡ step_back c s (i + m)
-  step_back_at_place f = f ∙ same_step_back c s _ _ (same_place_later c i m e)
+  pub back_at_place : {t : List ℕ} → t ≡ g s (k + m) → t ≡ g s (i + m)
+  back_at_place q = q ∙ b.back_same s _ _ (same_place_later c i m e)
