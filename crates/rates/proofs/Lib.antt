@@ -1,4 +1,3 @@
-pub mod Place
 pub mod Pairs
 pub mod Filled
 pub mod PairByPair

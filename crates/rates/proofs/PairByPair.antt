@@ -10,10 +10,8 @@ use Rattle.laws.proofs.Turns as Turns
 use Rattle.volume.specs.Calls.{read_value, is_empty}
 use Rattle.volume.proofs.EntryByEntry.{at_end, before_end}
 use Rattle.rates.specs.declared.Pair.{Pair}
-use Rattle.rates.specs.declared.Rates.{Rates}
-use Rattle.rates.specs.declared.RatesAnswer.{RatesAnswer}
 use Rattle.rates.specs.Table.{rates_of}
-use Rattle.rates.specs.Calls.{pair_count_range, refused_as24, PairRead, read_pair, PairsRead, read_pairs, pairs_in, load_rates, load_rates_call, rates_given}
+use Rattle.rates.specs.Calls.{pair_count_range, refused_as24, PairRead, read_pair, PairsRead, read_pairs, pairs_in, load_rates, load_rates_call, rates_left}
 use Rattle.rates.proofs.Pairs.{pairs_zero, pairs_suc, pairs_in_order}
 use Rattle.rates.proofs.Filled.{filled, filled_rates}
 
@@ -98,26 +96,24 @@ module _ (string : List ℕ) where
       ∙ same_lines (read_pairs c.value 0 c.rest) _ _ (λ read. last_line (is_empty read.rest) read.pairs)
       ∙ same_filled c.value c.rest (read_pairs c.value 0 c.rest) refl)
 
-  pub given_refused : (m : ℕ) (inUse : Rates) (r : RatesAnswer) → r ≡ record { refusal = m; rates = inUse } → load_rates string ≡ refused m
-      → rates_given r ≡ load_rates_call inUse.cents string
+  pub left_refused : (m : ℕ) (inUse : List ℕ) → load_rates string ≡ refused m → rates_left m inUse ≡ load_rates_call inUse string
   unfolding load_rates_call
-  given_refused m inUse r e q = rw (e, q)
+  left_refused m inUse q = rw q
 
-  pub given_accepted : (inUse loaded : Rates) (r : RatesAnswer) → r ≡ record { refusal = 0; rates = loaded }
-      → load_rates string ≡ accepted loaded.cents → rates_given r ≡ load_rates_call inUse.cents string
+  pub left_accepted : (inUse loaded : List ℕ) → load_rates string ≡ accepted loaded → rates_left 0 loaded ≡ load_rates_call inUse string
   unfolding load_rates_call
-  given_accepted inUse loaded r e q = rw (e, q)
+  left_accepted inUse loaded q = rw q
 
-  pub no_count : {m : ℕ} → read_value pair_count_range string ≡ refused m → load_rates string ≡ refused 24
-  no_count e = load_lines ∙ rw e
+  pub no_count : {m : ℕ} → refused m ≡ refused_as24 (read_value pair_count_range string) → load_rates string ≡ refused m
+  no_count e = load_lines ∙ rw (sym e)
 
-  module _ (n first : ℕ) (number : read_value pair_count_range string ≡ accepted (record { value = n; rest = drop first string })) where
+  module _ (n first : ℕ) (number : accepted (record { value = n; rest = drop first string }) ≡ refused_as24 (read_value pair_count_range string)) where
     from_pairs : {r : Result (List ℕ)} → all n (at_first (drop first string)) ≡ r → load_rates string ≡ r
-    from_pairs e = load_lines ∙ rw (number, e)
+    from_pairs e = load_lines ∙ rw (sym number, e)
 
     module _ (k last at : ℕ) (cents : List ℕ) (come : Filling n (drop first string) k last (drop at string) cents) where
-      pub no_pair_lem : {m : ℕ} → k < n → read_pair last (drop at string) ≡ refused m → load_rates string ≡ refused m
-      no_pair_lem l e = from_pairs (filling_refused n (drop first string) k last (drop at string) cents come l e)
+      pub no_pair : {m : ℕ} → k < n → read_pair last (drop at string) ≡ refused m → load_rates string ≡ refused m
+      no_pair l e = from_pairs (filling_refused n (drop first string) k last (drop at string) cents come l e)
 
       pub bytes_left_over : n ≤ k → at < length string → load_rates string ≡ refused 24
       bytes_left_over l h = from_pairs (filling_ends n (drop first string) k last (drop at string) cents come l ∙ rw (before_end string at h))

@@ -28,18 +28,12 @@ module _ (last : ℕ) (string : List ℕ) where
   unfolding read_pair
   pair_lines = refl
 
-  -- the first of the two that is refused, or both
-  pub no_product : {m : ℕ} → read_value product_range string ≡ refused m → read_pair last string ≡ refused 24
-  no_product e = pair_lines ∙ rw e
-
+  -- a product that is not above the one before, or both numbers
   module _ (product : ValueRead) (is_product : read_value product_range string ≡ accepted product) where
     pub not_above : product.value ≤ last → read_pair last string ≡ refused 25
     not_above l = pair_lines ∙ rw (is_product, le-ltb last product.value l)
 
     module _ (above : last < product.value) where
-      pub no_rate : {m : ℕ} → read_value rate_range product.rest ≡ refused m → read_pair last string ≡ refused 24
-      no_rate e = pair_lines ∙ rw (is_product, lt-ltb last product.value above, e)
-
       pub both_numbers : (rate : ValueRead) → read_value rate_range product.rest ≡ accepted rate
           → read_pair last string ≡ accepted (pair_of product rate)
       both_numbers rate e = pair_lines ∙ rw (is_product, lt-ltb last product.value above, e)

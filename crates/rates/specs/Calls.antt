@@ -2,10 +2,10 @@
 -- and the outcome, which is the refusal and the table in use after it.
 use Rattle.std.specs.Prelude.{List, [], ◌∷◌, ℕ, zero, suc, ltb}
 use Rattle.laws.specs.Result.{Result, refused, accepted, Outcome, outcome, ◌>>=◌, ◌>>◌, refuse◌unless◌}
-use Rattle.volume.specs.Volume.{Range, ◌to◌, product_range}
+use Rattle.volume.specs.declared.Range.{Range}
+use Rattle.volume.specs.Volume.{◌to◌, product_range}
 use Rattle.volume.specs.Calls.{read_value, is_empty}
 use Rattle.rates.specs.declared.Pair.{Pair}
-use Rattle.rates.specs.declared.RatesAnswer.{RatesAnswer}
 use Rattle.rates.specs.Table.{rates_of}
 
 -- 'a count, 0 to 8'
@@ -64,10 +64,6 @@ load_rates string = do
 -- .. 'in place of' the table in use; where it is refused 'the table in use stays'.
 unfoldable pub load_rates_call : (inUse string : List ℕ) → Outcome (List ℕ)
 load_rates_call inUse string = outcome inUse (load_rates string)
-
--- how an answer makes the outcome
-abbrev pub rates_given : RatesAnswer → Outcome (List ℕ)
-rates_given answer = record { refusal = answer.refusal; value = answer.rates.cents }
 
 -- how a refusal number and the caller's table make the outcome
 abbrev pub rates_left : (refusal : ℕ) (rates : List ℕ) → Outcome (List ℕ)

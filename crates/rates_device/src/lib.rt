@@ -20,9 +20,8 @@ pub extern "C" fn hc_our_rates() -> Rates
 pub extern "C" fn hc_load_rates(rates: &mut [u16; 8], string: &[u8]) -> u64
     ensures { Calls.rates_left result rates.new ≡ Calls.load_rates_call rates.old string.now }
 {
-    let answer = rates::load_rates(Rates { cents: *rates }, string);
-    let next = answer.rates;
-    let cents = next.cents;
-    *rates = cents;
-    answer.refusal
+    let mut table = Rates { cents: *rates };
+    let loaded = rates::load_rates(&mut table, string);
+    *rates = table.cents;
+    refusal::number_of(loaded)
 }

@@ -15,7 +15,8 @@ use Rattle.varint.specs.Number.{number, Reading, is, ended, malformed, read_numb
 use Rattle.varint.proofs.Groups.{number_bytes}
 use Rattle.varint.proofs.Reading.{read_written, written_read}
 use Rattle.volume.specs.declared.Entry.{Entry}
-use Rattle.volume.specs.Volume.{Range, in_range, count_range, minutes_range, litres_range, ratio_range, product_range, most_groups, entry_in_range, entries_in_range, entry_string, entries_string, volume_string, numbers_of, entries_of}
+use Rattle.volume.specs.declared.Range.{Range}
+use Rattle.volume.specs.Volume.{in_range, count_range, minutes_range, litres_range, ratio_range, product_range, most_groups, entry_in_range, entries_in_range, entry_string, entries_string, volume_string, numbers_of, entries_of}
 use Rattle.volume.specs.Calls.{ValueRead, EntryRead, EntriesRead, number_read, read_value, read_entry, read_entries, entries_in, VolumeRead, read_volume, VolumeWritten, write_volume}
 use Rattle.volume.proofs.Entries.{numbers_length, entries_numbers, numbers_entries, entries_length_lem}
 use Rattle.volume.proofs.Values.{ranged_value, range_most}

@@ -2,7 +2,7 @@
 use Rattle.std.specs.Prelude.{Bool, true, ◌&&◌, List, [], ◌∷◌, ◌++◌, ℕ, leb, length}
 use Rattle.varint.specs.Number.{number}
 use Rattle.volume.specs.declared.Entry.{Entry}
-pub use Rattle.volume.specs.declared.Range.{Range}
+use Rattle.volume.specs.declared.Range.{Range}
 
 infix 20 ◌to◌
 abbrev pub ◌to◌ : ℕ → ℕ → Range

@@ -1,67 +1,57 @@
 -- `rates::load_rates` meets its contract: pair by pair, and the place after the last is the string's end.
-use Rattle.std.proofs.Common.{◌∙◌, length-set, arith}
-use Rattle.laws.proofs.Results.{is_refused, is_accepted}
+use Rattle.std.proofs.Common.{◌∙◌, sym, length-set, arith}
+use Rattle.std.proofs.lemmas.Result.{err_from_is_err_and}
 use Rattle.rates.proofs.Pairs.{pair_in_order}
-use Rattle.rates.proofs.PairByPair.{filling_turns, given_refused, given_accepted, no_count, no_pair_lem, bytes_left_over, nothing_left_over}
+use Rattle.rates.proofs.PairByPair.{filling_turns, left_refused, left_accepted, no_count, no_pair, bytes_left_over, nothing_left_over}
 use Rattle.rates.proofs.load_rates.Goals as goal
 
-pub returns-then-count_refusal-ne0 : goal.returns-then-count_refusal-ne0
-returns-then-count_refusal-ne0 c =
+pub returns-in_err-count : goal.returns-in_err-count
+returns-in_err-count c =
     let a = c.args in
-    given_refused a.string.now 24 a.rates _ c.answer.ensures
-    (no_count _ (is_refused _ _ _ c.read_value-count.ensures.0 c.if-count_refusal-ne0.true))
+    let p = err_from_is_err_and c.from_residual.result c.from_residual.ensures.1 in
+    rw (p.1, p.2) (left_refused a.string.now _ a.rates.now.cents (no_count a.string.now c.in_err-count.ensures.value))
 
-pub returns-then-refusal-ne0 : goal.returns-then-refusal-ne0
-returns-then-refusal-ne0 c =
+pub returns-in_err-found : goal.returns-in_err-found
+returns-in_err-found c =
     let a = c.args in
     let l = c.loop-k in
-    let count = c.read_value-count in
-    given_refused a.string.now _ a.rates _ c.answer-then-refusal-ne0.ensures
-    (no_pair_lem _ count.result.value count.result.next (is_accepted _ _ _ count.ensures.0 c.if-count_refusal-ne0.false)
-    l.k l.last l.at l.cents l.invariant.3 c.loop-k-test.true
-    (is_refused _ _ _ c.read_pair-found.ensures.0 c.if-refusal-ne0.true))
+    let p = err_from_is_err_and c.from_residual-in_err-found.result c.from_residual-in_err-found.ensures.1 in
+    rw (p.1, p.2)
+    (left_refused a.string.now _ a.rates.now.cents
+    (no_pair a.string.now c.in_ok-count.count.value c.in_ok-count.count.next c.in_ok-count.ensures.value
+    l.k l.last l.at l.cents l.invariant.2 c.loop-k-test.true (sym c.in_err-found.ensures.pair)))
 
 -- the pair that was read: its product is a place of the table, and its rate fits 16 bits
 pub overflow_cast-cents : goal.overflow_cast-cents
-overflow_cast-cents c =
-    let p = pair_in_order _ _ _ (is_accepted _ _ _ c.read_pair-found.ensures.0 c.if-refusal-ne0.false) in
-    omega (arith, p.rate)
+overflow_cast-cents c = let p = pair_in_order _ _ _ (sym c.in_ok-found.ensures.pair) in omega (arith, p.rate)
 
 pub overflow_sub-cents : goal.overflow_sub-cents
-overflow_sub-cents c =
-    let p = pair_in_order _ _ _ (is_accepted _ _ _ c.read_pair-found.ensures.0 c.if-refusal-ne0.false) in
-    p.product.0
+overflow_sub-cents c = let p = pair_in_order _ _ _ (sym c.in_ok-found.ensures.pair) in p.product.0
 
 pub bounds-cents-last : goal.bounds-cents-last
-bounds-cents-last c =
-    let p = pair_in_order _ _ _ (is_accepted _ _ _ c.read_pair-found.ensures.0 c.if-refusal-ne0.false) in
-    omega (arith, p.product.1)
+bounds-cents-last c = let p = pair_in_order _ _ _ (sym c.in_ok-found.ensures.pair) in omega (arith, p.product.1)
 
 pub loop-k-preserved : goal.loop-k-preserved
 loop-k-preserved c =
     let l = c.loop-k in
-    let read = c.read_pair-found in (
-      omega arith,
-      read.ensures.1,
-      length-set l.cents _ _ ∙ l.invariant.2,
-      filling_turns _ _ l.k l.last _ l.cents l.invariant.3 c.loop-k-test.true
-          (is_accepted _ _ _ read.ensures.0 c.if-refusal-ne0.false),
+    let found = c.in_ok-found.ensures in (
+      found.within,
+      length-set l.cents _ _ ∙ l.invariant.1,
+      filling_turns _ _ l.k l.last _ l.cents l.invariant.2 c.loop-k-test.true (sym found.pair),
     )
 
 pub returns-then-at-string : goal.returns-then-at-string
 returns-then-at-string c =
     let a = c.args in
     let l = c.loop-k in
-    let count = c.read_value-count in
-    given_refused a.string.now 24 a.rates _ c.answer-then-at-string.ensures
-    (bytes_left_over _ count.result.value count.result.next (is_accepted _ _ _ count.ensures.0 c.if-count_refusal-ne0.false)
-    l.k l.last l.at l.cents l.invariant.3 (omega arith) (omega arith))
+    left_refused a.string.now 24 a.rates.now.cents
+    (bytes_left_over a.string.now c.in_ok-count.count.value c.in_ok-count.count.next c.in_ok-count.ensures.value
+    l.k l.last l.at l.cents l.invariant.2 (omega arith) (omega arith))
 
 pub returns : goal.returns
 returns c =
     let a = c.args in
     let l = c.loop-k in
-    let count = c.read_value-count in
-    given_accepted a.string.now a.rates _ _ c.answer-2.ensures
-    (nothing_left_over _ count.result.value count.result.next (is_accepted _ _ _ count.ensures.0 c.if-count_refusal-ne0.false)
-    l.k l.last l.at l.cents l.invariant.3 (omega arith) (omega arith))
+    left_accepted a.string.now a.rates.now.cents l.cents
+    (nothing_left_over a.string.now c.in_ok-count.count.value c.in_ok-count.count.next c.in_ok-count.ensures.value
+    l.k l.last l.at l.cents l.invariant.2 (omega arith) (omega arith))
