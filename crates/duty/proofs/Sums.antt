@@ -4,16 +4,19 @@ use mathlib.Core.List.{List}
 use Prim.Native.Nat.{ℕ, ◌+◌, ◌-◌, ◌/◌, ◌<◌, ◌≤◌}
 use native.Mathlib.Nat.{add-zero, zero-add, add_assoc}
 use lib.ListN.{length, drop}
+use Rattle.std.specs.Prelude.{Ok, Err}
+use Rattle.std.specs.Prelude as Std
 use Rattle.laws.specs.Result.{Result, refused, accepted, ◌>>=◌, ◌>>◌, refuse◌unless◌}
+use Rattle.refusal.specs.declared.Refusal.{Refusal}
+use Rattle.refusal.specs.Told.{told}
 use Rattle.volume.specs.declared.Entry.{Entry}
 use Rattle.volume.specs.Volume.{count_range}
 use Rattle.volume.specs.Calls.{EntryRead, read_value, read_entry, is_empty}
 use Rattle.volume.specs.Found.{entries_only}
 use Rattle.volume.proofs.EntryByEntry.{Comes, after, only_same, only_starts, only_turns, only_refused, only_ends, at_end, before_end}
 use Rattle.volume.proofs.Volumes.{volume_value}
-use Rattle.duty.specs.declared.DutyAnswer.{DutyAnswer}
 use Rattle.duty.specs.Duty.{exact_duty, entry_duty, entries_duty}
-use Rattle.duty.specs.Calls.{volume_duty, volume_duty_call, duty_given}
+use Rattle.duty.specs.Calls.{volume_duty, volume_duty_call, duty_answer, duty_given}
 
 -- the duty so far and that of the entries that are left
 abbrev pub with_so_far : (rates : List ℕ) (cents : ℕ) → List Entry → ℕ
@@ -52,22 +55,12 @@ module _ (rates string : List ℕ) where
   unfolding volume_duty
   volume_lines = volume_value (entries_duty rates) string
 
-  pub given_refused : (m : ℕ) (r : DutyAnswer) → r ≡ record { refusal = m; cents = 0 } → volume_duty rates string ≡ refused m
-      → duty_given r ≡ volume_duty_call rates string
-  unfolding volume_duty_call
-  given_refused m r e q = rw (e, q)
+  pub no_count : {m : ℕ} → refused m ≡ read_value count_range string → volume_duty rates string ≡ refused m
+  no_count e = volume_lines ∙ rw (sym e)
 
-  pub given_accepted : (cents : ℕ) (r : DutyAnswer) → r ≡ record { refusal = 0; cents = cents } → volume_duty rates string ≡ accepted cents
-      → duty_given r ≡ volume_duty_call rates string
-  unfolding volume_duty_call
-  given_accepted cents r e q = rw (e, q)
-
-  pub no_count : {m : ℕ} → read_value count_range string ≡ refused m → volume_duty rates string ≡ refused m
-  no_count e = volume_lines ∙ rw e
-
-  module _ (n first : ℕ) (number : read_value count_range string ≡ accepted (record { value = n; rest = drop first string })) where
+  module _ (n first : ℕ) (number : accepted (record { value = n; rest = drop first string }) ≡ read_value count_range string) where
     pub from_entries : {r : Result ℕ} → entries_only (entries_duty rates) n (drop first string) ≡ r → volume_duty rates string ≡ r
-    from_entries e = volume_lines ∙ rw (number, e)
+    from_entries e = volume_lines ∙ rw (sym number, e)
 
     module _ (k at cents : ℕ) (come : Summing rates n (drop first string) k (drop at string) cents) (l : n ≤ k) where
       pub bytes_after : at < length string → volume_duty rates string ≡ refused 16
@@ -75,3 +68,10 @@ module _ (rates string : List ℕ) where
 
       pub nothing_after : at ≡ length string → volume_duty rates string ≡ accepted cents
       nothing_after h = from_entries (sum_ends rates n (drop first string) k (drop at string) cents come l ∙ rw (at_end string at h))
+
+-- the answer for C
+pub given_call : (rates string : List ℕ) (answer : Std.Result ℕ Refusal) → told answer ≡ volume_duty rates string
+    → duty_given (duty_answer answer) ≡ volume_duty_call rates string
+unfolding volume_duty_call
+given_call rates string (Ok cents) e = rw (sym e)
+given_call rates string (Err refusal) e = rw (sym e)

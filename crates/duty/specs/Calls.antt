@@ -1,7 +1,11 @@
 -- Document 02 (e), the duty call as a definition of a table of rates and a string: the result, which is the refusal or the cents, and the outcome,
 -- which gives 0 cents beside a refusal.
 use Rattle.std.specs.Prelude.{List, ℕ}
+use Rattle.std.specs.Prelude as Std
 use Rattle.laws.specs.Result.{Result, accepted, Outcome, outcome, ◌>>=◌}
+use Rattle.refusal.specs.declared.Refusal.{Refusal}
+use Rattle.refusal.specs.Numbers.{number_in}
+use Rattle.volume.specs.Answers.{given}
 use Rattle.volume.specs.Calls.{entries_in}
 use Rattle.duty.specs.declared.DutyAnswer.{DutyAnswer}
 use Rattle.duty.specs.Duty.{entries_duty}
@@ -15,6 +19,10 @@ volume_duty rates string = do
 unfoldable pub volume_duty_call : (rates string : List ℕ) → Outcome ℕ
 volume_duty_call rates string = outcome 0 (volume_duty rates string)
 
--- how an answer makes the outcome
+-- for C: the answer, and how it makes the outcome
+
+abbrev pub duty_answer : Std.Result ℕ Refusal → DutyAnswer
+duty_answer answer = record { refusal = number_in answer; cents = given answer }
+
 abbrev pub duty_given : DutyAnswer → Outcome ℕ
 duty_given answer = record { refusal = answer.refusal; value = answer.cents }

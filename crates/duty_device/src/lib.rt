@@ -13,5 +13,5 @@ use rates::Rates;
 pub extern "C" fn hc_volume_duty(rates: &[u16; 8], string: &[u8]) -> DutyAnswer
     ensures { Calls.duty_given result ≡ Calls.volume_duty_call rates.now string.now }
 {
-    duty::volume_duty(Rates { cents: *rates }, string)
+    duty::volume_duty(Rates { cents: *rates }, string).into()
 }
