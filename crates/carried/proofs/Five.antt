@@ -62,17 +62,6 @@ next_is : (c : Cipher) (i : ℕ) (b : Bool) → cond b (indices_at (table_length
 next_is c i true = refl
 next_is c i false = carry_is c i
 
--- where the carried j is 0 a turn begins
-module _ (c : Cipher) (i : ℕ) (x : Indices) {y : Indices} {t : ℕ} (h : x.j ≡ i % table_length c) (e : t ≡ table_length c) (f : y ≡ carry t x) where
-  index : y.j ≡ (i + 1) % table_length c
-  index = ap (λ (z : Indices). z.j) f ∙ rw (e, h) (up_j c i)
-
-  pub next_worked_out : y.j ≡ 0 → {z : Indices} → z ≡ indices_at (table_length c) (i + 1) → z ≡ next_five (table_length c) x i
-  next_worked_out o g = rw (eq-eqb ((i + 1) % table_length c) 0 (sym index ∙ o)) g
-
-  pub next_carried : (y.j ≡ 0 → ⊥) → y ≡ next_five (table_length c) x i
-  next_carried o = rw (ne_eqb ((i + 1) % table_length c) 0 (λ q. o (index ∙ q))) (f ∙ ap (λ (z : ℕ). carry z x) e)
-
 pub within_all : (c : Cipher) (x : Indices) → Within (table_length c) x → Within 1024 x
 within_all c x v =
     let t = (table_size c).1 in
@@ -104,16 +93,6 @@ unwrapped_is T x n v =
       up_raises T x.minus12 n v.minus12_in,
     )
     refl
-
--- the next step is not the first of a turn, then
-pub next_unwrapped : (c : Cipher) (i n : ℕ) (x : Indices) {y : Indices} → NoneWraps (table_length c) x n → x.j ≡ i % table_length c → (n ≡ 0 → ⊥) → y ≡ carry_unwrapped x
-    → y ≡ next_five (table_length c) x i
-next_unwrapped c i n x v h o f =
-    let T = table_length c in
-    let s : n ≡ suc (n - 1) = omega arith in
-    let w : NoneWraps T x (suc (n - 1)) = rw s at v in
-    let e : (i + 1) % T ≡ x.j + 1 = sym (up_j c i) ∙ ap (up T) (sym h) ∙ up_raises T x.j (n - 1) w.j_in in
-    rw (ne_eqb ((i + 1) % T) 0 (λ q. omega (arith, e, q))) (f ∙ unwrapped_is T x (n - 1) w)
 
 unwrapped_later : (T : ℕ) (x : Indices) (n : ℕ) → NoneWraps T x (suc n) → NoneWraps T (carry_unwrapped x) n
 unwrapped_later T x n v = record { j_in = omega (arith, v.j_in); minus3_in = omega (arith, v.minus3_in); minus10_in = omega (arith, v.minus10_in); plus1_in = omega (arith, v.plus1_in); minus12_in = omega (arith, v.minus12_in) }

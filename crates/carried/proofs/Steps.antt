@@ -13,7 +13,7 @@ use Rattle.cipher.specs.declared.Cipher.{Cipher}
 use Rattle.cipher.specs.declared.Cipher.TheVariants.{Hc128, Hc256}
 use Rattle.cipher.specs.Numbers.{table_length}
 use Rattle.tables.specs.declared.Indices.{Indices}
-use Rattle.tables.specs.Area.{changes_p, start_a, indices_at, Within}
+use Rattle.tables.specs.Area.{changes_p, start_a, indices_at, places, Within}
 use Rattle.tables.proofs.Masks.{indices_within}
 use Rattle.tables.specs.Step.{step, output}
 use Rattle.tables.proofs.Words.{feedback_read, filter_read, stepped}
@@ -28,11 +28,11 @@ use Rattle.carried.proofs.Five.{carry_is, carried_is, five_is, unwrapped_is}
 module _ (c : Cipher) (s : List ℕ) (i : ℕ) {p : Bool} {x : Indices} (f : p ≡ changes_p (table_length c) i) (h : x ≡ indices_at (table_length c) i) where
   pub step_with_lem : step_with c p s x ≡ step c s i
   unfolding step_with
-  step_with_lem = stepped c s i (rw (h, f) refl) (ap (λ (d : ℕ). get_or s (start_a (table_length c) p + x.j) 0 ⊞ d) (feedback_read c s i refl f refl h))
+  step_with_lem = stepped c s i (rw (h, f) refl) (ap (λ (d : ℕ). get_or s (start_a (table_length c) p + x.j) 0 ⊞ d) (feedback_read c s i f (ap (places (table_length c) p) h)))
 
   pub output_with_lem : output_with c p s x ≡ output c s i
   unfolding output_with output
-  output_with_lem = ap₂ (λ (a b : ℕ). a ⊕ b) (filter_read c s i refl f refl h) (rw (h, f) refl)
+  output_with_lem = ap₂ (λ (a b : ℕ). a ⊕ b) (filter_read c s i f (ap (places (table_length c) p) h)) (rw (h, f) refl)
 
 -- ---- the steps of a row, as steps of the call
 

@@ -26,13 +26,7 @@ fn carry(t: usize, x: Indices) -> Indices
     requires { Within 1024 x }
     ensures { result ≡ Carried.carry t x }
 {
-    Indices {
-        j: up(t, x.j),
-        minus3: up(t, x.minus3),
-        minus10: up(t, x.minus10),
-        plus1: up(t, x.plus1),
-        minus12: up(t, x.minus12),
-    }
+    x.map(|k| up(t, k))
 }
 
 // The five indices one step on, where none wraps.
@@ -40,13 +34,7 @@ pub fn carry_unwrapped(x: Indices) -> Indices
     requires { Within 1024 x }
     ensures { result ≡ Runs.carry_unwrapped x }
 {
-    Indices {
-        j: x.j + 1,
-        minus3: x.minus3 + 1,
-        minus10: x.minus10 + 1,
-        plus1: x.plus1 + 1,
-        minus12: x.minus12 + 1,
-    }
+    x.map(|k| k + 1)
 }
 
 // The five indices of step i + 1, where x are those of step i and none of them wraps in m steps: worked out from the step number where a turn begins,
@@ -58,11 +46,12 @@ pub fn next_five(cipher: Cipher, i: usize, x: Indices, m: usize) -> Indices
     if m != 0 {
         return carry_unwrapped(x);
     }
-    let y = carry(cipher.table_words(), x);
-    if y.j == 0 {
-        return tables::indices_at(cipher, i + 1);
+    let next = carry(cipher.table_words(), x);
+    if next.j == 0 {
+        Indices::at(cipher, i + 1)
+    } else {
+        next
     }
-    y
 }
 
 // A number of steps in which none of the five indices x of a step wraps: those up to where j + 1 does, and 0 where one has wrapped already.
@@ -71,42 +60,39 @@ pub fn before_wrap(cipher: Cipher, x: Indices) -> usize
     ensures { result ≡ Runs.before_wrap (table_length cipher) x }
 {
     if x.minus12 < x.plus1 {
-        return cipher.table_words() - 1 - x.plus1;
+        cipher.table_words() - 1 - x.plus1
+    } else {
+        0
     }
-    0
 }
 
 // The step with the five indices x, where p tells whether P changes.
+#[tactic(auto, using(crate::proofs::Arms::step_read))]
 pub fn step(cipher: Cipher, p: bool, area: &mut [u32], x: Indices)
     requires { (length area.old ≡ area_length cipher) × Within (table_length cipher) x }
     ensures { area.new ≡ Steps.step_with cipher p area.old x }
 {
-    let a = tables::start_a(cipher.table_words(), p);
-    let j = a + x.j;
-    let minus3 = a + x.minus3;
-    let minus10 = a + x.minus10;
-    let plus1 = a + x.plus1;
-    area[j] = functions::with_feedback(
+    let at = x.places(cipher, p);
+    area[at.j] = functions::with_feedback(
         cipher,
         false,
         area,
         p,
-        area[minus3],
-        area[minus10],
-        area[plus1],
-        area[j],
+        area[at.minus3],
+        area[at.minus10],
+        area[at.plus1],
+        area[at.j],
     );
 }
 
 // The output of the step with the five indices x, from the area after it, where p tells whether P changes.
+#[tactic(auto, using(crate::proofs::Arms::output_read))]
 pub fn output(cipher: Cipher, p: bool, area: &[u32], x: Indices) -> u32
     requires { (length area.now ≡ area_length cipher) × Within (table_length cipher) x }
     ensures { result ≡ Steps.output_with cipher p area.now x }
 {
-    let a = tables::start_a(cipher.table_words(), p);
-    let j = a + x.j;
-    let minus12 = a + x.minus12;
-    functions::filter(cipher, area, p, area[minus12]) ^ area[j]
+    let at = x.places(cipher, p);
+    functions::filter(cipher, area, p, area[at.minus12]) ^ area[at.j]
 }
 
 // The step with the five indices x, where p tells whether P changes; its output.
@@ -124,18 +110,12 @@ fn word_256(p: bool, area: &mut [u32], x: Indices) -> u32
     requires { (length area.old ≡ area_length Hc256) × Within (table_length Hc256) x }
     ensures { Runs.Taken Hc256 p area.old x area.new result }
 {
+    let at = x.places(Cipher::Hc256, p);
     let t = Cipher::Hc256.table_words();
-    let a = tables::start_a(t, p);
-    let b = t - a;
-    let j = a + x.j;
-    let minus3 = a + x.minus3;
-    let minus10 = a + x.minus10;
-    let plus1 = a + x.plus1;
-    let minus12 = a + x.minus12;
-    let g = functions::g_256(&area[b..], area[minus3], area[plus1]);
-    let d = word::sum(area[minus10], g);
-    area[j] = word::sum(area[j], d);
-    functions::h(Cipher::Hc256, &area[b..], area[minus12]) ^ area[j]
+    let b = t - tables::start_a(t, p);
+    let g = functions::g_256(&area[b..], area[at.minus3], area[at.plus1]);
+    area[at.j] = area[at.j].wrapping_add(area[at.minus10].wrapping_add(g));
+    functions::h(Cipher::Hc256, &area[b..], area[at.minus12]) ^ area[at.j]
 }
 
 // A step of a run with the five indices x, where p tells whether P changes; its output. Its case is told apart once, before the step, so that a loop
@@ -144,31 +124,23 @@ pub fn word_in_run(cipher: Cipher, p: bool, area: &mut [u32], x: Indices) -> u32
     requires { (length area.old ≡ area_length cipher) × Within (table_length cipher) x }
     ensures { Runs.Taken cipher p area.old x area.new result }
 {
-    match cipher {
-        Cipher::Hc128 => if p {
-            word(Cipher::Hc128, true, area, x)
-        } else {
-            word(Cipher::Hc128, false, area, x)
-        },
-        Cipher::Hc256 => if p {
-            word(Cipher::Hc256, true, area, x)
-        } else {
-            word(Cipher::Hc256, false, area, x)
-        },
+    match (cipher, p) {
+        (Cipher::Hc128, true) => word(Cipher::Hc128, true, area, x),
+        (Cipher::Hc128, false) => word(Cipher::Hc128, false, area, x),
+        (Cipher::Hc256, true) => word(Cipher::Hc256, true, area, x),
+        (Cipher::Hc256, false) => word(Cipher::Hc256, false, area, x),
     }
 }
 
-// A step by itself with the five indices x, where p tells whether P changes; its output. Its case is told apart once, in less code than a run's.
+// A step by itself with the five indices x, where p tells whether P changes; its output. Its case is told apart once, in less code than a run's, and
+// apart from it: a function of this size is copied into its caller only where it has one, and with one for both short calls are slower.
 pub fn word_alone(cipher: Cipher, p: bool, area: &mut [u32], x: Indices) -> u32
     requires { (length area.old ≡ area_length cipher) × Within (table_length cipher) x }
     ensures { Runs.Taken cipher p area.old x area.new result }
 {
-    match cipher {
-        Cipher::Hc128 => if p {
-            word(Cipher::Hc128, true, area, x)
-        } else {
-            word(Cipher::Hc128, false, area, x)
-        },
-        Cipher::Hc256 => word_256(p, area, x),
+    match (cipher, p) {
+        (Cipher::Hc128, true) => word(Cipher::Hc128, true, area, x),
+        (Cipher::Hc128, false) => word(Cipher::Hc128, false, area, x),
+        (Cipher::Hc256, _) => word_256(p, area, x),
     }
 }

@@ -21,11 +21,8 @@ fn xor_part(bytes: &mut [u8], start: usize, n: usize, w: u32, from: usize)
     requires { (start + n ≤ length bytes.old) × (from + n ≤ 4) }
     ensures { bytes.new ≡ Stores.xor_part start n w from bytes.old }
 {
-    let mut k = 0;
-    while k < n {
-        let b = word::byte(w, (from + k) as u32);
-        bytes[start + k] = bytes[start + k] ^ (b as u8);
-        k += 1;
+    for k in 0..n {
+        bytes[start + k] ^= word::byte(w, (from + k) as u32) as u8;
     }
 }
 
@@ -34,14 +31,11 @@ fn xor_word(bytes: &mut [u8], start: usize, w: u32)
     requires { start + 4 ≤ length bytes.old }
     ensures { bytes.new ≡ Stores.xor_part start 4 w 0 bytes.old }
 {
-    let b0 = word::byte(w, 0);
-    let b1 = word::byte(w, 1);
-    let b2 = word::byte(w, 2);
-    let b3 = word::byte(w, 3);
-    bytes[start] = bytes[start] ^ (b0 as u8);
-    bytes[start + 1] = bytes[start + 1] ^ (b1 as u8);
-    bytes[start + 2] = bytes[start + 2] ^ (b2 as u8);
-    bytes[start + 3] = bytes[start + 3] ^ (b3 as u8);
+    let [b0, b1, b2, b3] = word::to_bytes(w);
+    bytes[start] ^= b0;
+    bytes[start + 1] ^= b1;
+    bytes[start + 2] ^= b2;
+    bytes[start + 3] ^= b3;
 }
 
 // The bytes that lie in the word w, which position p is inside; their number.
@@ -51,7 +45,7 @@ fn finish_word(p: usize, w: u32, bytes: &mut [u8]) -> usize
     if p % 4 == 0 {
         return 0;
     }
-    let n = steps::smaller(4 - p % 4, bytes.len());
+    let n = (4 - p % 4).min(bytes.len());
     xor_part(bytes, 0, n, w, p % 4);
     n
 }
@@ -80,104 +74,86 @@ fn xor_one(
     w
 }
 
-// n words from place start on, each with the output of its step, where n is a multiple of four and none of the five indices wraps in n steps from the
-// five `at` on; the five are carried from each step to the next, and four steps stand in a row. p tells whether P changes, and w is the last output
-// where n is 0.
+// n words from place start on, each with the output of its step, where n is a multiple of four and none of the five indices wraps in n steps from
+// `next` on; the five are carried from each step to the next, and four steps stand in a row. p tells whether P changes.
 fn xor_run(
     cipher: Cipher,
     p: bool,
     area: &mut [u32],
-    at: Indices,
-    w: u32,
+    mut next: Next,
     bytes: &mut [u8],
     start: usize,
     n: usize,
 ) -> Next
-    requires { (length area.old ≡ area_length cipher) × NoneWraps (table_length cipher) at n × (n % 4 ≡ 0) × (start + 4 * n ≤ length bytes.old) }
-    ensures { Worded (run_step cipher p at) (run_output cipher p at) area.old bytes.old 0 start n w
+    requires { (length area.old ≡ area_length cipher) × NoneWraps (table_length cipher) next.five n × (n % 4 ≡ 0)
+        × (start + 4 * n ≤ length bytes.old) }
+    ensures { Worded (run_step cipher p next.five) (run_output cipher p next.five) area.old bytes.old 0 start n next.last
         area.new bytes.new result.last
-        × (result.five ≡ carried (table_length cipher) at n) }
+        × (result.five ≡ carried (table_length cipher) next.five n) }
 {
-    let mut x = at;
-    let mut last = w;
-    let mut m = 0;
-    while m < n {
-        let mut q = 0;
-        while q < 4 {
-            last = carried::word_in_run(cipher, p, area, x);
-            xor_word(bytes, start + 4 * (m + q), last);
-            x = carried::carry_unwrapped(x);
-            q += 1;
+    for m in 0..n / 4 {
+        for q in 0..4 {
+            next.last = carried::word_in_run(cipher, p, area, next.five);
+            xor_word(bytes, start + 4 * (4 * m + q), next.last);
+            next.five = carried::carry_unwrapped(next.five);
         }
-        m += 4;
     }
-    Next {
-        five: x,
-        last: last,
-    }
+    next
 }
 
-// n words from place start on, each with the output of its step, from step i on, where the five indices `at` are those of step i. The five of a later
-// step are worked out from its number where it is the first of a turn, and carried inside the turn: four steps in a row where none wraps in them, and
-// else step by step. w is the last output where n is 0.
+// n words from place start on, each with the output of its step, from step i on, whose five indices are in `next`. The five of a later step are worked
+// out from its number where it is the first of a turn, and carried inside the turn: four steps in a row where none wraps in them, and else step by
+// step. The loop is no `for`, since a turn of it takes one step or many.
 fn xor_words(
     cipher: Cipher,
     area: &mut [u32],
     i: usize,
-    at: Indices,
-    w: u32,
+    mut next: Next,
     bytes: &mut [u8],
     start: usize,
     n: usize,
 ) -> Next
-    requires { (length area.old ≡ area_length cipher) × (at ≡ indices_at (table_length cipher) i) × (i + n < 2 ^ 64)
+    requires { (length area.old ≡ area_length cipher) × (next.five ≡ indices_at (table_length cipher) i) × (i + n < 2 ^ 64)
         × (start + 4 * n ≤ length bytes.old) }
-    ensures { Worded (call_step cipher i) (call_output cipher i) area.old bytes.old 0 start n w
+    ensures { Worded (call_step cipher i) (call_output cipher i) area.old bytes.old 0 start n next.last
         area.new bytes.new result.last
         × (result.five ≡ five_of (table_length cipher) i n) }
 {
-    let mut x = at;
-    let mut last = w;
     let mut k = 0;
     while k < n {
         let p = tables::changes_p(cipher, i + k);
-        let m = steps::smaller(n - k, carried::before_wrap(cipher, x));
+        let m = (n - k).min(carried::before_wrap(cipher, next.five));
         if m < 4 {
-            last = xor_one(cipher, p, area, x, bytes, start + 4 * k);
-            x = carried::next_five(cipher, i + k, x, m);
+            next.last = xor_one(cipher, p, area, next.five, bytes, start + 4 * k);
+            next.five = carried::next_five(cipher, i + k, next.five, m);
             k += 1;
         } else {
-            let run = xor_run(cipher, p, area, x, last, bytes, start + 4 * k, m - m % 4);
-            x = run.five;
-            last = run.last;
-            k += m - m % 4;
+            let fours = m - m % 4;
+            next = xor_run(cipher, p, area, next, bytes, start + 4 * k, fours);
+            k += fours;
         }
     }
-    Next {
-        five: x,
-        last: last,
-    }
+    next
 }
 
-// The last n bytes, fewer than four, with the first bytes of the output of step i, which is taken, with its five indices x, only where there are any;
-// that output, or w where there are none.
+// The last n bytes, fewer than four, with the first bytes of the output of step i, which is taken, with the five indices in `next`, only where there
+// are any; that output, or the last one where there are none.
 fn begin_word(
     cipher: Cipher,
     area: &mut [u32],
     i: usize,
-    x: Indices,
-    w: u32,
+    next: Next,
     bytes: &mut [u8],
     n: usize,
 ) -> u32
-    requires { (length area.old ≡ area_length cipher) × Within (table_length cipher) x × (n < 4) × (n ≤ length bytes.old) }
-    ensures { Begun (run_step cipher (changes_p (table_length cipher) i) x) (run_output cipher (changes_p (table_length cipher) i) x)
-        area.old bytes.old 0 n w area.new bytes.new result }
+    requires { (length area.old ≡ area_length cipher) × Within (table_length cipher) next.five × (n < 4) × (n ≤ length bytes.old) }
+    ensures { Begun (run_step cipher (changes_p (table_length cipher) i) next.five) (run_output cipher (changes_p (table_length cipher) i) next.five)
+        area.old bytes.old 0 n next.last area.new bytes.new result }
 {
     if n == 0 {
-        return w;
+        return next.last;
     }
-    let first = carried::word(cipher, tables::changes_p(cipher, i), area, x);
+    let first = carried::word(cipher, tables::changes_p(cipher, i), area, next.five);
     xor_part(bytes, bytes.len() - n, n, first, 0);
     first
 }
@@ -194,9 +170,10 @@ pub fn xor_keystream(cipher: Cipher, area: &mut [u32], p: usize, w: u32, bytes: 
     }
     let i = steps::steps_at(p);
     let n = left / 4;
-    let at = tables::indices_at(cipher, i);
-    let words = xor_words(cipher, area, i, at, w, bytes, start, n);
-    let last = words.last;
-    let x = words.five;
-    begin_word(cipher, area, i + n, x, last, bytes, left % 4)
+    let first = Next {
+        five: Indices::at(cipher, i),
+        last: w,
+    };
+    let next = xor_words(cipher, area, i, first, bytes, start, n);
+    begin_word(cipher, area, i + n, next, bytes, left % 4)
 }

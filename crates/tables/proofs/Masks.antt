@@ -5,13 +5,12 @@ use mathlib.Core.Bool.{Bool, true, false}
 use mathlib.Core.List.{List}
 use mathlib.Core.Logic.{⊎_elim}
 use Prim.Native.Nat.{ℕ, ◌+◌, ◌-◌, ◌*◌, ◌/◌, ◌%◌, ◌≤◌, ◌<◌}
-use native.Mathlib.Nat.{zero-add, mod-lt}
+use native.Mathlib.Nat.{mod-lt}
 use native.Mathlib.Omega.{arith}
 use borrow.Author.Tests.{lt-ltb, le-ltb, eq-eqb, ne_eqb}
 use lib.Bits.{bit_and, and_mask, and_high}
 use lib.Dec.{eqb, ltb}
-use lib.ListN.{length, get_or, take, drop, length-drop}
-use lib.Seq.{take_all, get_or-drop}
+use lib.ListN.{get_or}
 use Rattle.laws.proofs.Lists.{below_or_not}
 use Rattle.cipher.specs.declared.Cipher.{Cipher}
 use Rattle.cipher.specs.declared.Cipher.TheVariants.{Hc128, Hc256}
@@ -19,7 +18,6 @@ use Rattle.cipher.specs.Numbers.{table_length, area_length}
 use Rattle.functions.specs.Functions.{table, start_b}
 use Rattle.functions.specs.ByCipher.{h_of}
 use Rattle.word.specs.Word.{◌⊕◌}
-use Rattle.tables.specs.declared.Indices.{Indices}
 use Rattle.tables.specs.Area.{changes_p, start_a, indices_at, Within}
 use Rattle.tables.specs.Step.{place, filter, output}
 use Rattle.tables.proofs.Places.{table_size, place_is, place_lt}
@@ -36,32 +34,6 @@ table_and Hc256 i = and_mask i 10
 back_and : (c : Cipher) (i n : ℕ) → n ≤ 12 → bit_and (i % table_length c + (1024 - n)) (table_length c - 1) ≡ (i % table_length c + (table_length c - n)) % table_length c
 back_and Hc128 i n l = and_mask (i % 512 + (1024 - n)) 9 ∙ omega arith
 back_and Hc256 i n l = and_mask (i % 1024 + (1024 - n)) 10 ∙ omega arith
-
--- the five indices as the code has them, for tables of t words
-abbrev pub indices_and : ℕ → ℕ → Indices
-indices_and t i =
-    let j = bit_and i (t - 1) in
-    record {
-      j = j;
-      minus3 = bit_and (j + 1021) (t - 1);
-      minus10 = bit_and (j + 1014) (t - 1);
-      plus1 = bit_and (j + 1) (t - 1);
-      minus12 = bit_and (j + 1012) (t - 1);
-    }
-
-pub indices_and_lem : (c : Cipher) (i : ℕ) → indices_and (table_length c) i ≡ indices_at (table_length c) i
-indices_and_lem c i =
-    rw (
-      table_and c i,
-      back_and c i 3 (omega arith),
-      back_and c i 10 (omega arith),
-      back_and c i 12 (omega arith),
-      table_and c (i % table_length c + 1),
-    )
-    refl
-
-pub below_and : (c : Cipher) (i : ℕ) {t : ℕ} → t ≡ table_length c → bit_and i (t - 1) < 1024
-below_and c i e = rw (e, table_and c i) (omega (arith, mod-lt i {m = table_length c} (omega (arith, (table_size c).0)), (table_size c).1))
 
 pub indices_within : (c : Cipher) (i : ℕ) → Within (table_length c) (indices_at (table_length c) i)
 indices_within c i =
@@ -100,13 +72,6 @@ start_and Hc256 i = and_high (i % 2048) 1 10 ∙ half_256 (i % 2048) (omega arit
 pub minus12_is : (c : Cipher) (i : ℕ) → (i % area_length c + 1012) % table_length c ≡ (i % table_length c + (table_length c - 12)) % table_length c
 minus12_is Hc128 i = omega arith
 minus12_is Hc256 i = omega arith
-
--- a table from its first word on is a part of the area
-pub part_table : (s : List ℕ) (b : ℕ) → table (take (length s - b) (drop b s)) 0 ≡ table s b
-part_table s b = λ i k. at k i
-  where
-    at : (k : ℕ) → get_or (take (length s - b) (drop b s)) (0 + k) 0 ≡ get_or s (b + k) 0
-    at k = rw (take_all (length s - b) (drop b s) (omega (arith, length-drop b s)), zero-add k) (get_or-drop b s k 0)
 
 -- where the table that is looked up begins
 pub start_b_lem : (T : ℕ) (p : Bool) → T - start_a T p ≡ start_b T p

@@ -2,7 +2,7 @@
 use mathlib.Core.Path.{◌≡◌, refl}
 use mathlib.Core.Bool.{Bool}
 use mathlib.Core.List.{List}
-use Prim.Native.Nat.{ℕ, ◌+◌}
+use Prim.Native.Nat.{ℕ}
 use lib.ListN.{get_or, set}
 use Rattle.word.specs.Word.{◌⊞◌, ◌⊟◌}
 use Rattle.cipher.specs.declared.Cipher.{Cipher}
@@ -10,22 +10,23 @@ use Rattle.cipher.specs.declared.Cipher.TheVariants.{Hc128, Hc256}
 use Rattle.cipher.specs.Numbers.{table_length}
 use Rattle.functions.specs.ByCipher.{feedback_of, h_of, filter_of}
 use Rattle.tables.specs.declared.Indices.{Indices}
-use Rattle.tables.specs.Area.{changes_p, start_a, indices_at}
+use Rattle.tables.specs.Area.{changes_p, indices_at, places}
 use Rattle.tables.specs.Step.{feedback, filter, place, step, step_back}
 
-pub feedback_read : (c : Cipher) (s : List ℕ) (i : ℕ) {t a : ℕ} {p : Bool} {x : Indices}
-    → t ≡ table_length c → p ≡ changes_p (table_length c) i → a ≡ start_a t p → x ≡ indices_at (table_length c) i
-    → feedback_of c p s (get_or s (a + x.minus3) 0) (get_or s (a + x.minus10) 0) (get_or s (a + x.plus1) 0) ≡ feedback c s i
+-- p tells whether P changes, and x are the places that step i reads
+pub feedback_read : (c : Cipher) (s : List ℕ) (i : ℕ) {p : Bool} {x : Indices}
+    → p ≡ changes_p (table_length c) i → x ≡ places (table_length c) p (indices_at (table_length c) i)
+    → feedback_of c p s (get_or s x.minus3 0) (get_or s x.minus10 0) (get_or s x.plus1 0) ≡ feedback c s i
 unfolding feedback_of feedback
-feedback_read Hc128 s i e f g h = rw (h, g, f, e) refl
-feedback_read Hc256 s i e f g h = rw (h, g, f, e) refl
+feedback_read Hc128 s i e f = rw (f, e) refl
+feedback_read Hc256 s i e f = rw (f, e) refl
 
-pub filter_read : (c : Cipher) (s : List ℕ) (i : ℕ) {t a : ℕ} {p : Bool} {x : Indices}
-    → t ≡ table_length c → p ≡ changes_p (table_length c) i → a ≡ start_a t p → x ≡ indices_at (table_length c) i
-    → filter_of c p s (get_or s (a + x.minus12) 0) ≡ filter c s i
+pub filter_read : (c : Cipher) (s : List ℕ) (i : ℕ) {p : Bool} {x : Indices}
+    → p ≡ changes_p (table_length c) i → x ≡ places (table_length c) p (indices_at (table_length c) i)
+    → filter_of c p s (get_or s x.minus12 0) ≡ filter c s i
 unfolding filter_of h_of filter
-filter_read Hc128 s i e f g h = rw (h, g, f, e) refl
-filter_read Hc256 s i e f g h = rw (h, g, f, e) refl
+filter_read Hc128 s i e f = rw (f, e) refl
+filter_read Hc256 s i e f = rw (f, e) refl
 
 -- k is the place of A[j]
 module _ (c : Cipher) (s : List ℕ) (i : ℕ) {k v : ℕ} (e : k ≡ place c i) where

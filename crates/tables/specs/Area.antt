@@ -37,3 +37,13 @@ pub record Within (T : ℕ) (x : Indices) : Type 0 where
   pub minus10_in : x.minus10 < T
   pub plus1_in : x.plus1 < T
   pub minus12_in : x.minus12 < T
+
+-- the places in the area of five indices of the table that changes, where p tells whether P changes
+abbrev pub places : ℕ → Bool → Indices → Indices
+places T p x = record {
+  j = start_a T p + x.j;
+  minus3 = start_a T p + x.minus3;
+  minus10 = start_a T p + x.minus10;
+  plus1 = start_a T p + x.plus1;
+  minus12 = start_a T p + x.minus12;
+}

@@ -11,7 +11,7 @@ ghost use Rattle.tables.specs.Step as Step;
 use cipher::Cipher;
 
 // The five indices that a step reads in a table of T words: j, j - 3, j - 10, j + 1 and j - 12, modulo T.
-#[derive(Clone, Copy)]
+#[derive(Clone, Copy, Debug, PartialEq, Eq)]
 pub struct Indices {
     pub j: usize,
     pub minus3: usize,
@@ -20,23 +20,50 @@ pub struct Indices {
     pub minus12: usize,
 }
 
-// The indices of step i. T is a power of two, so that & takes the remainder; 1,021 is 1,024 - 3, so that adding it goes 3 back modulo 512 and modulo
-// 1,024, and so for the others.
-pub fn indices_at(cipher: Cipher, i: usize) -> Indices
-    ensures { (result ≡ Area.indices_at (table_length cipher) i) × Within (table_length cipher) result }
-{
-    let below = cipher.table_words() - 1;
-    let j = i & below;
-    Indices {
-        j: j,
-        minus3: (j + 1021) & below,
-        minus10: (j + 1014) & below,
-        plus1: (j + 1) & below,
-        minus12: (j + 1012) & below,
+impl Indices {
+    // The indices of step i. T is a power of two, so that & takes the remainder; 1,021 is 1,024 - 3, so that adding it goes 3 back modulo 512 and
+    // modulo 1,024, and so for the others.
+    pub fn at(cipher: Cipher, i: usize) -> Indices
+        ensures { (result ≡ Area.indices_at (table_length cipher) i) × Within (table_length cipher) result }
+    {
+        let below = cipher.table_words() - 1;
+        let j = i & below;
+        Indices {
+            j,
+            minus3: (j + 1021) & below,
+            minus10: (j + 1014) & below,
+            plus1: (j + 1) & below,
+            minus12: (j + 1012) & below,
+        }
+    }
+
+    // What f gives for each of the five.
+    pub fn map<F: Fn(usize) -> usize>(self, f: F) -> Indices
+        requires { F.pre f self.j × F.pre f self.minus3 × F.pre f self.minus10 × F.pre f self.plus1 × F.pre f self.minus12 }
+        ensures { F.post f self.j result.j × F.post f self.minus3 result.minus3 × F.post f self.minus10 result.minus10
+            × F.post f self.plus1 result.plus1 × F.post f self.minus12 result.minus12 }
+    {
+        Indices {
+            j: f(self.j),
+            minus3: f(self.minus3),
+            minus10: f(self.minus10),
+            plus1: f(self.plus1),
+            minus12: f(self.minus12),
+        }
+    }
+
+    // Their places in the area, where p tells whether P changes.
+    pub fn places(self, cipher: Cipher, p: bool) -> Indices
+        requires { Within (table_length cipher) self }
+        ensures { (result ≡ Area.places (table_length cipher) p self) × Within (area_length cipher) result }
+    {
+        let start = start_a(cipher.table_words(), p);
+        self.map(|k| start + k)
     }
 }
 
 // Whether P changes at step i: T is a power of two, so that its bit of i tells.
+#[tactic(auto, using(crate::proofs::Masks::changes_and))]
 pub fn changes_p(cipher: Cipher, i: usize) -> bool
     ensures { result ≡ Area.changes_p (table_length cipher) i }
 {
@@ -58,43 +85,38 @@ pub fn place(cipher: Cipher, i: usize) -> usize
 }
 
 // The word w with the feedback of step i put on it, or taken off where `back` holds.
+#[tactic(auto, using(crate::proofs::Words::feedback_read))]
 pub fn with_feedback(cipher: Cipher, back: bool, area: &[u32], i: usize, w: u32) -> u32
     requires { length area.now ≡ area_length cipher }
     ensures { result ≡ put back w (Step.feedback cipher area.now i) }
 {
-    let t = cipher.table_words();
     let p = changes_p(cipher, i);
-    let a = start_a(t, p);
-    let at = indices_at(cipher, i);
-    let minus3 = a + at.minus3;
-    let minus10 = a + at.minus10;
-    let plus1 = a + at.plus1;
+    let at = Indices::at(cipher, i).places(cipher, p);
     functions::with_feedback(
         cipher,
         back,
         area,
         p,
-        area[minus3],
-        area[minus10],
-        area[plus1],
+        area[at.minus3],
+        area[at.minus10],
+        area[at.plus1],
         w,
     )
 }
 
 // h(A[j-12]) at step i.
+#[tactic(auto, using(crate::proofs::Words::filter_read))]
 pub fn filter(cipher: Cipher, area: &[u32], i: usize) -> u32
     requires { length area.now ≡ area_length cipher }
     ensures { result ≡ Step.filter cipher area.now i }
 {
-    let t = cipher.table_words();
     let p = changes_p(cipher, i);
-    let a = start_a(t, p);
-    let at = indices_at(cipher, i);
-    let minus12 = a + at.minus12;
-    functions::filter(cipher, area, p, area[minus12])
+    let at = Indices::at(cipher, i).places(cipher, p);
+    functions::filter(cipher, area, p, area[at.minus12])
 }
 
 // Step i.
+#[tactic(auto, using(crate::proofs::Words::stepped))]
 pub fn step(cipher: Cipher, area: &mut [u32], i: usize)
     requires { length area.old ≡ area_length cipher }
     ensures { area.new ≡ Step.step cipher area.old i }
@@ -104,6 +126,7 @@ pub fn step(cipher: Cipher, area: &mut [u32], i: usize)
 }
 
 // Step i undone.
+#[tactic(auto, using(crate::proofs::Words::stepped_back))]
 pub fn step_back(cipher: Cipher, area: &mut [u32], i: usize)
     requires { length area.old ≡ area_length cipher }
     ensures { area.new ≡ Step.step_back cipher area.old i }

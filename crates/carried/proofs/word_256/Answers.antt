@@ -4,8 +4,7 @@ use Rattle.carried.proofs.word_256.Goals as goal
 
 pub returns : goal.returns
 returns c =
-    let e = c.table_words-t.ensures.0 in
-    let f = c.start_a-a.ensures.0 in (
-      step_256 c.args.p c.args.area.now c.args.x e f c.g_256-g.ensures c.sum-d.ensures c.sum.ensures,
-      output_256 c.args.p _ c.args.x e f c.h.ensures,
-    )
+    let e = c.places-at.ensures.0 in
+    let f = c.table_words-t.ensures.0 in
+    let h = c.start_a.ensures.0 in
+    (step_256 c.args.p c.args.area.now c.args.x e f h c.g_256-g.ensures, output_256 c.args.p _ c.args.x e f h c.h.ensures)

@@ -8,4 +8,4 @@ returns-then-n-eq0 c = begun_none _ _ _ _ _ _ c.if-n-eq0.true
 pub returns : goal.returns
 returns c =
     let a = c.args in
-    begun_some a.cipher a.x _ a.area.now a.bytes.now a.n a.w c.changes_p.ensures c.if-n-eq0.false c.requires.2 c.word-first.ensures c.xor_part.ensures
+    begun_some a.cipher a.next.five _ a.area.now a.bytes.now a.n a.next.last c.changes_p.ensures c.if-n-eq0.false c.requires.2 c.word-first.ensures c.xor_part.ensures

@@ -29,7 +29,7 @@ returns-then-left-eq0 c =
 
 pub begin_word-requires : goal.begin_word-requires
 begin_word-requires c =
-    let worded = c.xor_words-words in (
+    let worded = c.xor_words-next in (
       worded.auto.area ∙ c.requires.0,
       five_within c.args.cipher _ _ worded.ensures.1,
       omega arith,
@@ -41,7 +41,7 @@ returns c =
     let cipher = c.args.cipher in
     let ended = c.finish_word-start in
     let counted = c.steps_at-i in
-    let worded = c.xor_words-words in
+    let worded = c.xor_words-next in
     let begun = c.begin_word in
     let words = words_numbered cipher _ _ _ _ _ _ worded.ensures.0 in
     let last = begun_numbered cipher worded.new.area worded.new.bytes _ _ _ _ worded.ensures.1 (omega arith) begun.ensures in

@@ -9,4 +9,4 @@ loop-k-init c = forward_starts _ _ 0 _
 pub loop-k-preserved : goal.loop-k-preserved
 loop-k-preserved c =
     let l = c.loop-k in
-    forward_turns _ _ 0 _ l.k l.invariant c.loop-k-test.true (omega arith) (cc c.byte-b.ensures.0) (simp length-set)
+    forward_turns _ _ 0 _ l.k l.invariant c.loop-k-test.true (omega arith) (cc c.byte.ensures.0) (simp length-set)

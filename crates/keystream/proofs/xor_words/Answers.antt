@@ -16,33 +16,33 @@ loop-k-init c = call_start _ _ _ _ _ _ _ c.requires.1
 pub before_wrap-requires : goal.before_wrap-requires
 before_wrap-requires c = five_within c.args.cipher c.args.i _ c.loop-k.invariant.1
 
-pub xor_one-last-requires : goal.xor_one-last-requires
-xor_one-last-requires c =
+pub xor_one-requires : goal.xor_one-requires
+xor_one-requires c =
     let l = c.loop-k in (
       l.invariant.0.0.sized ∙ c.requires.0,
       five_within c.args.cipher c.args.i _ l.invariant.1,
       omega (arith, c.loop-k-test.true, l.invariant.0.1.sized, c.requires.3),
     )
 
-pub next_five-x-requires : goal.next_five-x-requires
-next_five-x-requires c =
+pub next_five-next-requires : goal.next_five-next-requires
+next_five-next-requires c =
     let v = c.loop-k.invariant in (
-      none_wraps_fewer _ _ _ _ (before_wrap_lem c.args.cipher c.args.i _ v.1) (omega (arith, c.smaller-m.ensures, c.before_wrap.ensures)),
+      none_wraps_fewer _ _ _ _ (before_wrap_lem c.args.cipher c.args.i _ v.1) (omega (arith, c.min-m.ensures, c.before_wrap.ensures)),
       five_index c.args.cipher c.args.i _ v.1,
       omega (arith, c.loop-k-test.true, c.requires.2),
     )
 
 pub loop-k-preserved-then-m-lt4 : goal.loop-k-preserved-then-m-lt4
 loop-k-preserved-then-m-lt4 c =
-    let one = c.xor_one-last in
+    let one = c.xor_one in
     let v = c.loop-k.invariant in
     call_one _ _ _ _ _ _ _ v c.changes_p-p.ensures c.loop-k-test.true one.ensures.0 one.auto.area one.ensures.1 one.auto.bytes
-    (call_next _ _ _ _ _ _ _ v c.next_five-x.ensures)
+    (call_next _ _ _ _ _ _ _ v c.next_five-next.ensures)
 
-pub xor_run-run-requires : goal.xor_run-run-requires
-xor_run-run-requires c =
+pub xor_run-next-requires : goal.xor_run-next-requires
+xor_run-next-requires c =
     let l = c.loop-k in
-    let v = fours _ _ _ c.smaller-m.ensures c.if-m-lt4.false in (
+    let v = fours _ _ _ c.min-m.ensures c.if-m-lt4.false in (
       l.invariant.0.0.sized ∙ c.requires.0,
       none_wraps_fewer _ _ _ _ (before_wrap_lem c.args.cipher c.args.i _ l.invariant.1) (omega (arith, v.2, c.before_wrap.ensures)),
       v.3,
@@ -51,10 +51,10 @@ xor_run-run-requires c =
 
 pub loop-k-preserved : goal.loop-k-preserved
 loop-k-preserved c =
-    let run = c.xor_run-run in
-    let v = fours _ _ _ c.smaller-m.ensures c.if-m-lt4.false in
-    let n = c.smaller-m.result - c.smaller-m.result % 4 in
-    let none : NoneWraps (table_length c.args.cipher) c.loop-k.x n =
+    let run = c.xor_run-next in
+    let v = fours _ _ _ c.min-m.ensures c.if-m-lt4.false in
+    let n = c.min-m.result - c.min-m.result % 4 in
+    let none : NoneWraps (table_length c.args.cipher) c.loop-k.next.five n =
     none_wraps_fewer _ _ _ _ (before_wrap_lem c.args.cipher c.args.i _ c.loop-k.invariant.1) (omega (arith, v.2, c.before_wrap.ensures)) in
     call_run _ _ _ _ _ _ _ c.loop-k.invariant c.changes_p-p.ensures _ v.0 (omega (arith, v.1, c.loop-k-test.true)) none
     run.ensures run.auto.area run.auto.bytes

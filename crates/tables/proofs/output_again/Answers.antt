@@ -1,6 +1,7 @@
 -- `tables::output_again` meets its contract: its places are those of step i, and what it looks up is the other table.
 use Rattle.std.proofs.Common.{◌-◌, ◌/◌, length}
-use Rattle.tables.proofs.Masks.{start_of, again, part_table, output_read}
+use Rattle.functions.proofs.Tables.{part_table}
+use Rattle.tables.proofs.Masks.{start_of, again, output_read}
 use Rattle.tables.proofs.output_again.Goals as goal
 
 pub returns : goal.returns
