@@ -1,7 +1,7 @@
 // Many steps of a cipher, forward and back, by runs where there are any; a move from one byte position to another; and the word of a position.
 #![tactic(auto)]
 
-ghost use Rattle.std.specs.Prelude.{◌≡◌, ◌+◌, ◌-◌, ◌^◌, ◌≤◌, ◌<◌, min, length};
+ghost use Rattle.std.specs.Prelude.{◌≡◌, ◌+◌, ◌-◌, ◌^◌, ◌≤◌, ◌<◌, length};
 ghost use Rattle.laws.specs.Iterate.{forward, backward};
 ghost use Rattle.cipher.specs.Numbers.{area_length};
 ghost use Rattle.steps.specs.Steps as Steps;
@@ -15,13 +15,6 @@ pub fn steps_at(p: usize) -> usize
     ensures { result ≡ Steps.steps_at p }
 {
     (p + 3) / 4
-}
-
-// The smaller of two numbers.
-pub fn smaller(a: usize, b: usize) -> usize
-    ensures { result ≡ min a b }
-{
-    a.min(b)
 }
 
 // Some of the changes at the steps i to i + n - 1, from the first on: those of a run, or one; their number.
