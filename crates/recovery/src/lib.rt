@@ -8,18 +8,6 @@ ghost use Rattle.recovery.specs.Recovery.{found_at};
 
 use cipher::Cipher;
 
-// Copies words into a slice of the same length.
-fn copy_words(from: &[u32], to: &mut [u32])
-    requires { length from.now ≡ length to.old }
-    ensures { to.new ≡ from.now }
-{
-    let mut k = 0;
-    while k < to.len() {
-        to[k] = from[k];
-        k += 1;
-    }
-}
-
 // The sixteen words that the tables at a position lead back to; the area is used up.
 fn undo_at(cipher: Cipher, position: usize, area: &mut [u32]) -> Option<[u32; 16]>
     requires { (length area.old ≡ area_length cipher) × (position < 2 ^ 63) }
@@ -30,70 +18,26 @@ fn undo_at(cipher: Cipher, position: usize, area: &mut [u32]) -> Option<[u32; 16
     setup::undo_set_up(cipher, area)
 }
 
-// The sixteen words that the tables at a position lead back to; the area stays, and a lent copy of its size is used up.
-fn undo_copy(cipher: Cipher, position: usize, area: &[u32], copy: &mut [u32]) -> Option<[u32; 16]>
-    requires { (length area.now ≡ area_length cipher) × (length copy.old ≡ area_length cipher) × (position < 2 ^ 63) }
-    ensures { result ≡ found_at cipher area.now position }
-{
-    copy_words(area, copy);
-    undo_at(cipher, position, copy)
-}
-
-// The sixteen words that the tables at a position lead back to; the area stays, and the start of a lent scratch that either cipher fits is used up.
-fn undo_in(cipher: Cipher, position: usize, area: &[u32], scratch: &mut [u32]) -> Option<[u32; 16]>
-    requires { (length area.now ≡ area_length cipher) × (length scratch.old ≡ 2048) × (position < 2 ^ 63) }
-    ensures { result ≡ found_at cipher area.now position }
-{
-    let n = cipher.area_words();
-    undo_copy(cipher, position, area, &mut scratch[..n])
-}
-
-// The sixteen words that the tables of an area at a position lead back to; the area stays, and the scratch is on the stack.
+// The sixteen words that the tables of an area at a position lead back to; the area stays, and the copy that is used up is on the stack.
 pub fn of_area(cipher: Cipher, position: usize, area: &[u32]) -> Option<[u32; 16]>
     requires { (length area.now ≡ area_length cipher) × (position < 2 ^ 63) }
     ensures { result ≡ found_at cipher area.now position }
 {
     let mut scratch = [0u32; 2048];
-    undo_in(cipher, position, area, &mut scratch)
+    let copy = &mut scratch[..cipher.area_words()];
+    copy.copy_from_slice(area);
+    undo_at(cipher, position, copy)
 }
 
-// The sixteen words that the tables in a string, from place `from` on, lead back to at a position; the lent area is used up.
-fn undo_string(
-    cipher: Cipher,
-    position: usize,
-    string: &[u8],
-    from: usize,
-    area: &mut [u32],
-) -> Option<[u32; 16]>
-    requires { (length area.old ≡ area_length cipher) × (from + 4 * area_length cipher ≡ length string.now) × (position < 2 ^ 63) }
-    ensures { result ≡ found_at cipher (words (drop from string.now)) position }
-{
-    checkpoint::read_words(string, from, area);
-    undo_at(cipher, position, area)
-}
-
-// The sixteen words that the tables in a string lead back to; the start of a lent scratch that either cipher fits is used up.
-fn undo_string_in(
-    cipher: Cipher,
-    position: usize,
-    string: &[u8],
-    from: usize,
-    scratch: &mut [u32],
-) -> Option<[u32; 16]>
-    requires { (length scratch.old ≡ 2048) × (from + 4 * area_length cipher ≡ length string.now) × (position < 2 ^ 63) }
-    ensures { result ≡ found_at cipher (words (drop from string.now)) position }
-{
-    let n = cipher.area_words();
-    undo_string(cipher, position, string, from, &mut scratch[..n])
-}
-
-// The sixteen words that the tables in a string, from place `from` on, lead back to at a position; the scratch is on the stack.
+// The sixteen words that the tables in a string, from place `from` on, lead back to at a position; the area that is used up is on the stack.
 pub fn of_string(cipher: Cipher, position: usize, string: &[u8], from: usize) -> Option<[u32; 16]>
     requires { (from + 4 * area_length cipher ≡ length string.now) × (position < 2 ^ 63) }
     ensures { result ≡ found_at cipher (words (drop from string.now)) position }
 {
     let mut scratch = [0u32; 2048];
-    undo_string_in(cipher, position, string, from, &mut scratch)
+    let area = &mut scratch[..cipher.area_words()];
+    checkpoint::read_words(string, from, area);
+    undo_at(cipher, position, area)
 }
 
 // Eight words, of which n are those of w from place `from` on and the others 0.
@@ -102,10 +46,6 @@ pub fn eight_words(w: [u32; 16], from: usize, n: usize) -> [u32; 8]
     ensures { result ≡ take n (drop from w) ++ replicate (8 - n) 0 }
 {
     let mut out = [0u32; 8];
-    let mut k = 0;
-    while k < n {
-        out[k] = w[from + k];
-        k += 1;
-    }
+    out[..n].copy_from_slice(&w[from..from + n]);
     out
 }
