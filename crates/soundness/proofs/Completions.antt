@@ -1,5 +1,5 @@
 -- What makes an answer fit a string, from what the check of a volume says of single strings. Assumes nothing.
-use mathlib.Core.Path.{◌≡◌, refl, sym, ap, ◌∙◌}
+use mathlib.Core.Path.{◌≡◌, sym, ap, ◌∙◌}
 use mathlib.Core.List.{List, [], ◌∷◌, ◌++◌, append_assoc}
 use Prim.Native.Nat.{ℕ, suc, ◌-◌, ◌*◌}
 use native.Mathlib.Omega.{arith}
@@ -11,7 +11,7 @@ use Rattle.laws.proofs.Lists.{append_below, drop_below}
 use Rattle.word.specs.Bytes.{AllBytes}
 use Rattle.volume.specs.declared.Entry.{Entry}
 use Rattle.volume.specs.Calls.{entries_in, check_volume}
-use Rattle.volume.proofs.Volumes.{read_accepted}
+use Rattle.volume.proofs.Volumes.{check_accepted}
 use Rattle.volume.proofs.Shows.{read_shows, read_accepts}
 use Rattle.soundness.specs.declared.Soundness.TheVariants as answer
 use Rattle.soundness.specs.Soundness.{IsVolume, Completable, Fits}
@@ -29,7 +29,7 @@ entries_volume string entries e =
     (list, _, read_accepts string list entries e (omega arith))
 
 pub volume_is : (string : List ℕ) → Checks string → IsVolume string
-volume_is string h = let e = read_accepted string 0 (sym h) refl in entries_volume string e.0 e.1
+volume_is string h = let e = check_accepted string (sym h) in entries_volume string e.0 e.1
 
 pub checks_volume : (string : List ℕ) → IsVolume string → Checks string
 unfolding check_volume

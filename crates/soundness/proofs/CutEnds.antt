@@ -9,7 +9,8 @@ use Rattle.laws.proofs.Lists.{below_or_not}
 use Rattle.word.specs.Bytes.{AllBytes}
 use Rattle.varint.specs.Number.{Reading, ended, before, read_groups}
 use Rattle.varint.proofs.Reading.{read_end, read_more}
-use Rattle.volume.specs.Volume.{Range, count_range, minutes_range, litres_range, ratio_range, product_range}
+use Rattle.volume.specs.declared.Range.{Range}
+use Rattle.volume.specs.Volume.{count_range, minutes_range, litres_range, ratio_range, product_range}
 use Rattle.volume.specs.Calls.{ValueRead, EntryRead, read_value, read_entry, read_entries, entries_in}
 use Rattle.volume.proofs.FourNumbers.{entry_of}
 use Rattle.volume.proofs.EntryByEntry.{joined, entries_suc}

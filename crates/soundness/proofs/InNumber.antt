@@ -16,7 +16,8 @@ use Rattle.word.specs.Bytes.{AllBytes}
 use Rattle.varint.specs.Number.{Reading, is, ended, malformed, read_groups}
 use Rattle.varint.proofs.Place.{onto, onto_none, onto_more}
 use Rattle.varint.proofs.Reading.{read_last, read_small, read_more, groups_read}
-use Rattle.volume.specs.Volume.{Range, in_range}
+use Rattle.volume.specs.declared.Range.{Range}
+use Rattle.volume.specs.Volume.{in_range}
 use Rattle.volume.specs.Calls.{ValueRead, number_read, read_value, check_volume}
 use Rattle.volume.proofs.Values.{ranged_value, range_holds, range_most}
 use Rattle.soundness.specs.declared.Soundness.TheVariants as answer

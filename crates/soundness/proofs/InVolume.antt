@@ -9,7 +9,8 @@ use Rattle.laws.proofs.Results.{block_in_block, same_lines, refused_iff, no_refu
 use Rattle.word.specs.Bytes.{AllBytes}
 use Rattle.varint.specs.Number.{number}
 use Rattle.volume.specs.declared.Entry.{Entry}
-use Rattle.volume.specs.Volume.{Range, in_range, count_range, minutes_range, litres_range, ratio_range, product_range}
+use Rattle.volume.specs.declared.Range.{Range}
+use Rattle.volume.specs.Volume.{in_range, count_range, minutes_range, litres_range, ratio_range, product_range}
 use Rattle.volume.specs.Calls.{ValueRead, EntryRead, read_value, read_entry, entries_in, check_volume}
 use Rattle.volume.specs.Found.{entries_only}
 use Rattle.volume.proofs.Values.{value_in_range}

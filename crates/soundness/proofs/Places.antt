@@ -10,7 +10,7 @@ use lib.Seq.{drop-cons, drop-length}
 use Rattle.laws.specs.Result.{Result, refused, accepted, ◌>>=◌}
 use Rattle.laws.proofs.Results.{no_refusal, accepted_one}
 use Rattle.laws.proofs.Turns as Turns
-use Rattle.volume.specs.Volume.{count_range, minutes_range, litres_range, ratio_range, product_range}
+use Rattle.volume.specs.Volume.{count_range}
 use Rattle.volume.specs.Calls.{ValueRead, EntryRead, read_value, read_entry}
 use Rattle.soundness.specs.declared.Soundness.{Soundness}
 use Rattle.soundness.specs.declared.Soundness.TheVariants as answer
@@ -63,28 +63,6 @@ module _ (s : List ℕ) (at most : ℕ) where
     -- what such a number makes with its next group fits 63 bits
     pub group_fits : most < 2 ^ 32 → (d : ℕ) → d < 256 → (value + weight * d < 2 ^ 63) × (weight * 128 < 2 ^ 63)
     group_fits h d m = let p : weight * d ≤ weight * 255 = mul-le-mul_left weight (omega arith) in (omega (arith, c.can_be), omega (arith, c.can_be))
-
--- ---- the numbers of an entry that is refused
-
-module _ (s rest : List ℕ) where
-  pub in_minutes : {m : ℕ} → read_value minutes_range rest ≡ refused m → entry_soundness s rest ≡ number_soundness s minutes_range rest
-  unfolding entry_soundness
-  in_minutes e = rw e
-
-  module _ (minutes : ValueRead) (is_minutes : read_value minutes_range rest ≡ accepted minutes) where
-    pub in_litres : {m : ℕ} → read_value litres_range minutes.rest ≡ refused m → entry_soundness s rest ≡ number_soundness s litres_range minutes.rest
-    unfolding entry_soundness
-    in_litres e = rw (is_minutes, e)
-
-    module _ (litres : ValueRead) (is_litres : read_value litres_range minutes.rest ≡ accepted litres) where
-      pub in_ratio : {m : ℕ} → read_value ratio_range litres.rest ≡ refused m → entry_soundness s rest ≡ number_soundness s ratio_range litres.rest
-      unfolding entry_soundness
-      in_ratio e = rw (is_minutes, is_litres, e)
-
-      pub in_product : (ratio : ValueRead) → read_value ratio_range litres.rest ≡ accepted ratio
-          → entry_soundness s rest ≡ number_soundness s product_range ratio.rest
-      unfolding entry_soundness
-      in_product ratio is_ratio = rw (is_minutes, is_litres, is_ratio)
 
 -- ---- entry after entry
 

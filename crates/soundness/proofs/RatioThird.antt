@@ -16,10 +16,10 @@ use Rattle.volume.specs.Calls.{read_value, read_entry}
 use Rattle.volume.proofs.Values.{range_holds}
 use Rattle.volume.proofs.Undo.{value_back, entry_back, string_cons, range_first, range_others, entries_bytes}
 use Rattle.soundness.specs.Soundness.{Fits}
-use Rattle.soundness.specs.Found.{hopeless_before, number_soundness, entries_soundness, volume_soundness}
+use Rattle.soundness.specs.Found.{hopeless_before, number_soundness, entry_soundness, entries_soundness, volume_soundness}
 use Rattle.soundness.proofs.InNumber.{groups_more, groups_beyond, third_refused}
 use Rattle.soundness.proofs.InVolume.{volume_fits}
-use Rattle.soundness.proofs.Places.{in_entries, in_ratio, all_refused, all_accepted}
+use Rattle.soundness.proofs.Places.{in_entries, all_refused, all_accepted}
 
 -- entries that are whole are passed over
 whole_entries : (s : List ℕ) (n : ℕ) (entries : List Entry) (t : List ℕ) → entries_in_range entries ≡ true
@@ -50,13 +50,20 @@ module _ (s rest : List ℕ) (minutes litres b₁ b₂ : ℕ) (m-in : in_range m
     e,
   )
 
+  in_ratio : (m : ℕ) → read_value ratio_range (b₁ ∷ b₂ ∷ rest) ≡ refused m → entry_soundness s entry ≡ number_soundness s ratio_range (b₁ ∷ b₂ ∷ rest)
+  unfolding entry_soundness
+  in_ratio m e = rw (
+    value_back minutes_range (omega arith) minutes (number litres ++ (b₁ ∷ b₂ ∷ rest)) m-in,
+    value_back litres_range (omega arith) litres (b₁ ∷ b₂ ∷ rest) l-in,
+    e,
+  )
+
   in_entry : (n : ℕ) → entries_soundness s (suc n) entry ≡ hopeless_before s rest
   in_entry n =
       let r = third_refused ratio_range b₁ b₂ rest h₁ h₂ bytes (omega arith) in
       let e = entry_refused r.0 r.1 in
       all_refused s n entry r.0 (rw e)
-      ∙ in_ratio s entry _ (value_back minutes_range (omega arith) minutes (number litres ++ (b₁ ∷ b₂ ∷ rest)) m-in)
-      _ (value_back litres_range (omega arith) litres (b₁ ∷ b₂ ∷ rest) l-in) r.1
+      ∙ in_ratio r.0 r.1
       ∙ ratio_soundness
 
 pub ratio_third : (count : ℕ) (entries : List Entry) (minutes litres b₁ b₂ : ℕ) (rest : List ℕ) → count ≤ 2000 → length entries < count

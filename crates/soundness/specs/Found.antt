@@ -1,7 +1,8 @@
 -- The answer as the code works it out, number by number. Only contracts below the calls cite it.
 use Rattle.std.specs.Prelude.{cond, List, [], ◌∷◌, ℕ, zero, suc, ◌+◌, ◌-◌, ◌*◌, ltb, length}
 use Rattle.laws.specs.Result.{Result, refused, accepted}
-use Rattle.volume.specs.Volume.{Range, count_range, minutes_range, litres_range, ratio_range, product_range}
+use Rattle.volume.specs.declared.Range.{Range}
+use Rattle.volume.specs.Volume.{count_range, minutes_range, litres_range, ratio_range, product_range}
 use Rattle.volume.specs.Calls.{ValueRead, read_value, read_entry}
 use Rattle.soundness.specs.declared.Soundness.{Soundness}
 use Rattle.soundness.specs.declared.Soundness.TheVariants as answer

@@ -4,16 +4,15 @@
 #![tactic(auto)]
 
 ghost use Rattle.std.specs.Prelude.{◌≡◌, ◌≤◌, length, drop};
-ghost use Rattle.volume.specs.Volume as Volume;
-ghost use Rattle.soundness.specs.Soundness.{Fits};
+ghost use Rattle.soundness.specs.Soundness.{Fits, for_c};
 ghost use Rattle.soundness.specs.Found as Found;
 
 use volume::reading::{check_entry, read_value};
-use volume::{MOST_ENTRIES, MOST_LITRES, MOST_MINUTES, MOST_PRODUCT, MOST_RATIO};
+use volume::{COUNT, LITRES, MINUTES, PRODUCT, RATIO, Range};
 
 // The answer: the string is a volume; or it is none, but some bytes after it make it one; or no bytes can complete its first `length` bytes, and some
 // can complete each shorter beginning.
-#[derive(Clone, Copy)]
+#[derive(Clone, Copy, Debug, PartialEq, Eq)]
 pub enum Soundness {
     Sound,
     Cut,
@@ -28,29 +27,43 @@ pub struct SoundnessAnswer {
     pub length: usize,
 }
 
-// Where the number from place `at` on, which reading refuses, became hopeless: at its last group, or at one that leaves only numbers above `most`; or
-// that the string is cut, where it ends before such a group.
-fn number_soundness(string: &[u8], at: usize, most: u32) -> Soundness
-    requires { (at ≤ length string.now) × (1 ≤ most) }
-    ensures { result ≡ Found.groups_soundness string.now most 0 1 (drop at string.now) }
+impl From<Soundness> for SoundnessAnswer {
+    ghost from_gives = { λ soundness answer. answer ≡ for_c soundness };
+
+    fn from(soundness: Soundness) -> SoundnessAnswer {
+        let (answer, length) = match soundness {
+            Soundness::Sound => (0, 0),
+            Soundness::Cut => (1, 0),
+            Soundness::Hopeless { length } => (2, length),
+        };
+        SoundnessAnswer {
+            answer: answer,
+            length: length,
+        }
+    }
+}
+
+// Where the number from place `at` on, which reading refuses, became hopeless: at its last group, or at one that leaves only numbers above its range;
+// or that the string is cut, where it ends before such a group.
+fn number_soundness(string: &[u8], at: usize, range: Range) -> Soundness
+    requires { (at ≤ length string.now) × (1 ≤ range.most) }
+    ensures { result ≡ Found.number_soundness string.now range (drop at string.now) }
 {
-    let mut value: u64 = 0;
-    let mut weight: u64 = 1;
-    let mut next = at;
-    while next < string.len() {
+    let mut value = 0;
+    let mut weight = 1;
+    for next in at..string.len() {
         let group = string[next] as u64;
-        next += 1;
         if group < 128 {
-            return Soundness::Hopeless { length: next };
+            return Soundness::Hopeless { length: next + 1 };
         }
         let least = value + weight * group; // the least number that has these groups, since the last group is not 0
-        if (most as u64) < least {
-            return Soundness::Hopeless { length: next };
+        if (range.most as u64) < least {
+            return Soundness::Hopeless { length: next + 1 };
         }
         value += weight * (group - 128);
         weight *= 128;
     }
-    Soundness::Cut
+    Soundness::Cut // the string ends here
 }
 
 // Where the entry from place `at` on, which reading refuses, became hopeless, in its first number that reading refuses; or that the string is cut.
@@ -58,19 +71,16 @@ fn entry_soundness(string: &[u8], at: usize) -> Soundness
     requires { at ≤ length string.now }
     ensures { result ≡ Found.entry_soundness string.now (drop at string.now) }
 {
-    let minutes = read_value(string, at, 0, MOST_MINUTES);
-    if minutes.refusal != 0 {
-        return number_soundness(string, at, MOST_MINUTES);
-    }
-    let litres = read_value(string, minutes.next, 0, MOST_LITRES);
-    if litres.refusal != 0 {
-        return number_soundness(string, minutes.next, MOST_LITRES);
-    }
-    let ratio = read_value(string, litres.next, 0, MOST_RATIO);
-    if ratio.refusal != 0 {
-        return number_soundness(string, litres.next, MOST_RATIO);
-    }
-    number_soundness(string, ratio.next, MOST_PRODUCT)
+    let Ok(minutes) = read_value(string, at, MINUTES) else {
+        return number_soundness(string, at, MINUTES);
+    };
+    let Ok(litres) = read_value(string, minutes.next, LITRES) else {
+        return number_soundness(string, minutes.next, LITRES);
+    };
+    let Ok(ratio) = read_value(string, litres.next, RATIO) else {
+        return number_soundness(string, litres.next, RATIO);
+    };
+    number_soundness(string, ratio.next, PRODUCT)
 }
 
 // Whether n entries stand from place `first` on and nothing after them; else where the string became hopeless, or that it is cut.
@@ -79,14 +89,11 @@ fn entries_soundness(string: &[u8], first: usize, n: u32) -> Soundness
     ensures { result ≡ Found.entries_soundness string.now n (drop first string.now) }
 {
     let mut at = first;
-    let mut k = 0;
-    while k < n {
-        let found = check_entry(string, at);
-        if found.refusal != 0 {
+    for k in 0..n {
+        let Ok(found) = check_entry(string, at) else {
             return entry_soundness(string, at);
-        }
+        };
         at = found.next;
-        k += 1;
     }
     if at != string.len() {
         return Soundness::Hopeless { length: at + 1 };
@@ -98,9 +105,8 @@ fn entries_soundness(string: &[u8], first: usize, n: u32) -> Soundness
 pub fn volume_soundness(string: &[u8]) -> Soundness
     ensures { Fits string.now result }
 {
-    let count = read_value(string, 0, 0, MOST_ENTRIES);
-    if count.refusal != 0 {
-        return number_soundness(string, 0, MOST_ENTRIES);
+    match read_value(string, 0, COUNT) {
+        Ok(count) => entries_soundness(string, count.next, count.value),
+        Err(_) => number_soundness(string, 0, COUNT),
     }
-    entries_soundness(string, count.next, count.value)
 }

@@ -3,26 +3,12 @@
 
 ghost use Rattle.soundness.specs.Soundness.{Given};
 
-use soundness::{Soundness, SoundnessAnswer};
+use soundness::SoundnessAnswer;
 
 // Volume soundness: whether a string is sound, cut or hopeless, and at which length it became hopeless.
 #[unsafe(no_mangle)]
 pub extern "C" fn hc_volume_soundness(volume: &[u8]) -> SoundnessAnswer
     ensures { Given volume.now result }
 {
-    let soundness = soundness::volume_soundness(volume);
-    match soundness {
-        Soundness::Sound => SoundnessAnswer {
-            answer: 0,
-            length: 0,
-        },
-        Soundness::Cut => SoundnessAnswer {
-            answer: 1,
-            length: 0,
-        },
-        Soundness::Hopeless { length } => SoundnessAnswer {
-            answer: 2,
-            length: length,
-        },
-    }
+    soundness::volume_soundness(volume).into()
 }

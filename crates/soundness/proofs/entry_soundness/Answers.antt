@@ -1,38 +1,25 @@
 -- `soundness::entry_soundness` meets its contract: the first of the four numbers that is refused.
-use Rattle.std.proofs.Common.{sym, ◌∙◌, drop}
-use Rattle.laws.proofs.Results.{is_refused, is_accepted}
-use Rattle.soundness.proofs.Places.{in_minutes, in_litres, in_ratio, in_product}
+use Rattle.std.proofs.Common.{sym}
+use Rattle.soundness.specs.Found.{entry_soundness}
 use Rattle.soundness.proofs.entry_soundness.Goals as goal
 
-pub returns-then-minutes-ne0 : goal.returns-then-minutes-ne0
-returns-then-minutes-ne0 c =
-    let a = c.args in
-    c.number_soundness.ensures
-    ∙ sym (in_minutes a.string.now (drop a.at a.string.now)
-    (is_refused _ _ _ c.read_value-minutes.ensures.0 c.if-minutes-ne0.true))
+pub returns-in_default : goal.returns-in_default
+unfolding entry_soundness
+returns-in_default c = rw (sym c.in_default.ensures.value) c.number_soundness.ensures
 
-pub returns-then-litres-ne0 : goal.returns-then-litres-ne0
-returns-then-litres-ne0 c =
-    let a = c.args in
-    c.number_soundness-then-litres-ne0.ensures
-    ∙ sym (in_litres a.string.now (drop a.at a.string.now)
-    _ (is_accepted _ _ _ c.read_value-minutes.ensures.0 c.if-minutes-ne0.false)
-    (is_refused _ _ _ c.read_value-litres.ensures.0 c.if-litres-ne0.true))
+pub returns-in_default-read_value : goal.returns-in_default-read_value
+unfolding entry_soundness
+returns-in_default-read_value c =
+    rw (sym c.in-Ok.ensures.value, sym c.in_default-read_value.ensures.value) c.number_soundness-in_default-read_value.ensures
 
-pub returns-then-ratio-ne0 : goal.returns-then-ratio-ne0
-returns-then-ratio-ne0 c =
-    let a = c.args in
-    c.number_soundness-then-ratio-ne0.ensures
-    ∙ sym (in_ratio a.string.now (drop a.at a.string.now)
-    _ (is_accepted _ _ _ c.read_value-minutes.ensures.0 c.if-minutes-ne0.false)
-    _ (is_accepted _ _ _ c.read_value-litres.ensures.0 c.if-litres-ne0.false)
-    (is_refused _ _ _ c.read_value-ratio.ensures.0 c.if-ratio-ne0.true))
+pub returns-in_default-read_value-2 : goal.returns-in_default-read_value-2
+unfolding entry_soundness
+returns-in_default-read_value-2 c =
+    rw (sym c.in-Ok.ensures.value, sym c.in-Ok-read_value.ensures.value, sym c.in_default-read_value-2.ensures.value)
+    c.number_soundness-in_default-read_value-2.ensures
 
 pub returns : goal.returns
+unfolding entry_soundness
 returns c =
-    let a = c.args in
+    rw (sym c.in-Ok.ensures.value, sym c.in-Ok-read_value.ensures.value, sym c.in-Ok-read_value-2.ensures.value)
     c.number_soundness-2.ensures
-    ∙ sym (in_product a.string.now (drop a.at a.string.now)
-    _ (is_accepted _ _ _ c.read_value-minutes.ensures.0 c.if-minutes-ne0.false)
-    _ (is_accepted _ _ _ c.read_value-litres.ensures.0 c.if-litres-ne0.false)
-    _ (is_accepted _ _ _ c.read_value-ratio.ensures.0 c.if-ratio-ne0.false))

@@ -7,15 +7,15 @@ returns-then-group-lt128 c =
     let l = c.loop-next in
     last _ _ _ l.value l.weight l.next l.invariant c.loop-next-test.true c.if-group-lt128.true
 
-pub returns-then-most-least : goal.returns-then-most-least
-returns-then-most-least c =
+pub returns-then-range-least : goal.returns-then-range-least
+returns-then-range-least c =
     let l = c.loop-next in
-    beyond _ _ _ l.value l.weight l.next l.invariant c.loop-next-test.true c.if-group-lt128.false c.if-most-least.true
+    beyond _ _ _ l.value l.weight l.next l.invariant c.loop-next-test.true c.if-group-lt128.false c.if-range-least.true
 
 pub loop-next-preserved : goal.loop-next-preserved
 loop-next-preserved c =
     let l = c.loop-next in
-    comes_on _ _ _ l.value l.weight l.next l.invariant c.loop-next-test.true c.if-group-lt128.false c.if-most-least.false
+    comes_on _ _ _ l.value l.weight l.next l.invariant c.loop-next-test.true c.if-group-lt128.false c.if-range-least.false
 
 pub returns : goal.returns
 returns c =
