@@ -17,53 +17,38 @@ pub fn length_of(cipher: Cipher, position: u64) -> usize
     1 + varint::count_groups(position) + 4 * cipher.area_words()
 }
 
-// Writes a word from place `at` on, least significant byte first.
-fn put_word(out: &mut [u8], at: usize, w: u32)
-    requires { at + 4 ≤ length out.old }
-    ensures { out.new ≡ sets out.old at (bytes (w ∷ [])) }
-{
-    let b0 = word::byte(w, 0);
-    let b1 = word::byte(w, 1);
-    let b2 = word::byte(w, 2);
-    let b3 = word::byte(w, 3);
-    out[at] = b0 as u8;
-    out[at + 1] = b1 as u8;
-    out[at + 2] = b2 as u8;
-    out[at + 3] = b3 as u8;
-}
-
-// Writes words from place `at` on, one after another.
+// Writes words from place `at` on, one after another, each least significant byte first.
+#[tactic(auto, using(crate::proofs::Stores::word_more), unfolding(word::specs::Bytes::bytes))]
 fn put_words(out: &mut [u8], at: usize, area: &[u32])
     requires { (at + 4 * length area.now ≤ length out.old) × (length area.now ≤ 2048) }
     ensures { out.new ≡ sets out.old at (bytes area.now) }
 {
-    let mut k = 0;
-    while k < area.len() {
-        put_word(out, at + 4 * k, area[k]);
-        k += 1;
+    for (k, word) in area.iter().enumerate() {
+        let b = word::to_bytes(*word);
+        let place = at + 4 * k;
+        out[place..place + 4].copy_from_slice(&b);
     }
 }
 
 // Puts the checkpoint at the start of the lent bytes; later bytes stay.
+#[tactic(auto, using(crate::proofs::Checkpoint::layout_length, crate::proofs::Checkpoint::layout_stored))]
 pub fn write_checkpoint(cipher: Cipher, position: u64, area: &[u32], lent: &mut [u8])
     requires { (length area.now ≡ area_length cipher) × (Checkpoint.length_of cipher position ≤ length lent.old) }
     ensures { lent.new ≡ put_first (Checkpoint.layout cipher position area.now) lent.old }
 {
-    let row = cipher.row();
-    lent[0] = row.code;
+    lent[0] = cipher.row().code;
     let at = varint::write_number(position, lent, 1);
     put_words(lent, at, area);
 }
 
 // Fills the area with the words of a string from place `from` on, least significant byte first.
+#[tactic(auto, using(crate::proofs::Words::word_read))]
 pub fn read_words(string: &[u8], from: usize, area: &mut [u32])
     requires { (from + 4 * length area.old ≡ length string.now) × (length area.old ≤ 2048) }
     ensures { area.new ≡ words (drop from string.now) }
 {
-    let mut j = 0;
-    while j < area.len() {
+    for (j, word) in area.iter_mut().enumerate() {
         let at = from + 4 * j;
-        area[j] = word::from_bytes(string[at], string[at + 1], string[at + 2], string[at + 3]);
-        j += 1;
+        *word = word::from_bytes(string[at], string[at + 1], string[at + 2], string[at + 3]);
     }
 }

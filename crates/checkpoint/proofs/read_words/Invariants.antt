@@ -1,10 +1,7 @@
--- `checkpoint::read_words` meets its contract. The loop's invariant: the first j words of the area are those of the string.
-use Rattle.std.proofs.Common.{◌≡◌, ℕ, ◌-◌, ◌<◌, length, get_or, drop}
+-- The first j words of the area are those of the string.
+use Rattle.std.proofs.Common.{◌≡◌, ℕ, ◌<◌, get_or, drop}
 use Rattle.word.specs.Bytes.{words}
 use Rattle.checkpoint.proofs.read_words.Given as goal
 
 abbrev pub invariant-loop-j : goal.invariant-loop-j
 invariant-loop-j l = (k : ℕ) → k < l.j → get_or l.area k 0 ≡ get_or (words (drop l.from l.string)) k 0
-
-abbrev pub decreases-loop-j : goal.decreases-loop-j
-decreases-loop-j l = length l.initial.area - l.j
