@@ -1,12 +1,14 @@
 -- What a call leaves, by the outcome of its conditions. Assumes nothing.
 use mathlib.Core.Path.{◌≡◌, refl, sym, ◌∙◌}
-use mathlib.Core.Bool.{true, false}
+use mathlib.Core.Bool.{Bool, true, false}
 use mathlib.Core.List.{List, ◌++◌}
-use Prim.Native.Nat.{ℕ, zero, suc, ◌+◌, ◌-◌, ◌/◌, ◌≤◌, ◌<◌}
-use native.Mathlib.Nat.{le-max_right, max-eq_left, max-eq_right}
+use Prim.Native.Nat.{ℕ, zero, suc, ◌+◌, ◌-◌, ◌/◌, ◌≤◌, ◌<◌, max}
+use native.Mathlib.Nat.{le-max_right, max-eq_left}
 use native.Mathlib.Omega.{arith}
 use borrow.Author.Tests.{eq-eqb, ne_eqb, le-leb, lt-leb}
 use lib.IntN.{ℤ}
+use Rattle.std.specs.Prelude.{Some, None}
+use Rattle.std.specs.Bool.{then_some}
 use lib.ListN.{length, take, drop, replicate}
 use lib.Seq.{length-take-le}
 use Rattle.laws.proofs.Lists.{take_below, drop_below, part_length}
@@ -21,16 +23,18 @@ use Rattle.steps.specs.Steps.{moved, last_output, word_at}
 use Rattle.keystream.specs.Keystream.{CipheredFrom}
 use Rattle.keystream.proofs.Positions.{moved_on}
 use Rattle.volume.specs.declared.Entry.{Entry}
-use Rattle.volume.specs.Calls.{entries_in}
+use Rattle.volume.specs.Calls.{entries_in, check_volume}
 use Rattle.setup.specs.SetUp as SetUp
 use Rattle.checkpoint.specs.Checkpoint.{layout, length_of}
-use Rattle.recovery.specs.Recovery.{filled_at}
+use Rattle.recovery.specs.Recovery.{filled_at, found_at}
 use Rattle.engine.specs.declared.Head.{Head}
-use Rattle.laws.specs.Result.{refused, accepted}
+use Rattle.laws.specs.Result.{Result, refused, accepted, ◌>>◌}
+use Rattle.laws.proofs.Results.{no_refusal}
 use Rattle.conditions.specs.Limit.{limit}
 use Rattle.engine.specs.Head.{head_at, mark_after}
-use Rattle.conditions.specs.Conditions.{set_up_check, head_check, cipher_check, end_of, move_check, recover_check, load_found, load_check}
-use Rattle.conditions.proofs.Undo.{none_at, found_at}
+use Rattle.conditions.specs.Conditions.{set_up_check, head_check, cipher_check, end_of, move_check, recover_check, undo_at, load_found, load_check}
+use Rattle.conditions.proofs.Undo.{none_at}
+use Rattle.conditions.proofs.Undo as Undo
 use Rattle.engine.specs.Calls.{engine_of, head_ready, set_up, set_up_call, cipher, cipher_call, encipher_volume, encipher_volume_call, move, move_call, write, write_call, checkpoint_length, checkpoint_length_call, recover, recover_call, eight_words, load, load_call, spent, spent_call}
 
 module _ (h : Head) (code : ℕ) (key iv area : List ℕ) where
@@ -51,15 +55,10 @@ module _ (mark end : ℕ) where
   unfolding mark_after
   mark_left n e = rw e
 
-  pub mark_raised : (n : ℕ) → (n ≡ 0 → ⊥) → mark < end → end ≡ mark_after mark end n
+  pub mark_raised : (n : ℕ) → (n ≡ 0 → ⊥) → max mark end ≡ mark_after mark end n
   unfolding mark_after
-  mark_raised zero z l = absurd (z refl)
-  mark_raised (suc n) z l = sym (max-eq_right (omega arith))
-
-  pub mark_larger : (n : ℕ) → (n ≡ 0 → ⊥) → end ≤ mark → mark ≡ mark_after mark end n
-  unfolding mark_after
-  mark_larger zero z l = absurd (z refl)
-  mark_larger (suc n) z l = sym (max-eq_left l)
+  mark_raised zero z = absurd (z refl)
+  mark_raised (suc n) z = refl
 
   -- the same call once more leaves it
   pub mark_again : (n : ℕ) → mark_after (mark_after mark end n) end n ≡ mark_after mark end n
@@ -87,16 +86,26 @@ module _ (h : Head) (area bytes : List ℕ) where
     cipher_done new s bs word mark l p w m =
         rw (e, le-leb (h.position + length bytes) limit l, p, m, w.2, w.0, w.1, moved_on c area h.position (length bytes))
 
+-- whether a result is accepted, and nothing of what it gives
+none_given : {A : Type 0} (r : Result A) → ((n : ℕ) → (r >> accepted (tt {0})) ≡ refused n → r ≡ refused n)
+    × ((r >> accepted (tt {0})) ≡ accepted (tt {0}) → (a : A) × (r ≡ accepted a))
+none_given (refused m) = ((λ n e. cc), λ e. no_refusal (sym e))
+none_given (accepted a) = ((λ n e. no_refusal e), λ e. (a, refl))
+
 module _ (h : Head) (area volume : List ℕ) where
-  pub encipher_refused : (n : ℕ) → entries_in volume ≡ refused n
+  pub encipher_refused : (n : ℕ) → check_volume volume ≡ refused n
       → record { refusal = n; value = record { engine = engine_of h area; bytes = volume } } ≡ encipher_volume_call h area volume
-  unfolding encipher_volume_call encipher_volume
-  encipher_refused n e = rw e
+  unfolding encipher_volume_call encipher_volume check_volume
+  encipher_refused n e = rw ((none_given (entries_in volume)).0 n e)
 
   -- once the volume is read it is the cipher call
   pub encipher_ciphers : (entries : List Entry) → entries_in volume ≡ accepted entries → cipher_call h area volume ≡ encipher_volume_call h area volume
   unfolding encipher_volume_call encipher_volume cipher_call
   encipher_ciphers entries e = rw e
+
+  pub encipher_checked : check_volume volume ≡ accepted (tt {0}) → cipher_call h area volume ≡ encipher_volume_call h area volume
+  unfolding check_volume
+  encipher_checked e = let (entries, read) = (none_given (entries_in volume)).1 e in encipher_ciphers entries read
 
 module _ (h : Head) (area : List ℕ) (d : ℤ) where
   pub move_refused : (n : ℕ) → head_ready h area ≡ refused n
@@ -143,6 +152,23 @@ module _ (code position : ℕ) where
   unfolding checkpoint_length_call checkpoint_length
   length_told c e n p = rw (e, p)
 
+-- the key and the IV of the words that the tables lead back to
+module _ (c : Cipher) (s : List ℕ) (position : ℕ) where
+  undone_if : (t : Bool) (o : List ℕ) → (t ≡ false → undo_at c s position ≡ SetUp.none)
+      → (t ≡ true → undo_at c s position ≡ SetUp.found (key_of c o) (iv_of c o)) → (then_some t o ≡ None → undo_at c s position ≡ SetUp.none)
+      × ((w : List ℕ) → then_some t o ≡ Some w → undo_at c s position ≡ SetUp.found (key_of c w) (iv_of c w))
+  undone_if true o f g = ((λ e. absurd (cc)), λ w e. let q : o ≡ w = cc in rw (← q) (g refl))
+  undone_if false o f g = ((λ e. f refl), λ w e. absurd (cc))
+
+  abbrev led : List ℕ
+  led = filled_at c s position
+
+  pub no_pair : found_at c s position ≡ None → undo_at c s position ≡ SetUp.none
+  no_pair = (undone_if (is_filled c led) (origin c led) (none_at c s position) (Undo.found_at c s position)).0
+
+  pub pair_of : (w : List ℕ) → found_at c s position ≡ Some w → undo_at c s position ≡ SetUp.found (key_of c w) (iv_of c w)
+  pair_of = (undone_if (is_filled c led) (origin c led) (none_at c s position) (Undo.found_at c s position)).1
+
 module _ (h : Head) (area key iv : List ℕ) where
   pub recover_refused : (n : ℕ) → head_ready h area ≡ refused n
       → record { refusal = n; value = record { engine = engine_of h area; key = key; iv = iv } } ≡ recover_call h area key iv
@@ -161,39 +187,38 @@ module _ (h : Head) (area key iv : List ℕ) where
     recover_iv k v = rw (e, eq-eqb (length key) (key_length c) k, ne_eqb (length iv) (iv_length c) v)
 
     module _ (k : length key ≡ key_length c) (v : length iv ≡ iv_length c) where
-      pub recover_none : is_filled c (filled_at c area h.position) ≡ false
+      pub recover_none : found_at c area h.position ≡ None
           → record { refusal = 12; value = record { engine = engine_of h area; key = key; iv = iv } } ≡ recover_call h area key iv
       unfolding recover_call recover recover_check
       recover_none f =
-          rw (e, eq-eqb (length key) (key_length c) k, eq-eqb (length iv) (iv_length c) v, none_at c area h.position f)
+          rw (e, eq-eqb (length key) (key_length c) k, eq-eqb (length iv) (iv_length c) v, no_pair c area h.position f)
 
-      pub recover_done : (key' iv' : List ℕ) → is_filled c (filled_at c area h.position) ≡ true
-          → key' ≡ key_of c (origin c (filled_at c area h.position)) → iv' ≡ iv_of c (origin c (filled_at c area h.position))
+      pub recover_done : (w key' iv' : List ℕ) → found_at c area h.position ≡ Some w → key' ≡ key_of c w → iv' ≡ iv_of c w
           → record { refusal = 0; value = record { engine = engine_of h area; key = key'; iv = iv' } } ≡ recover_call h area key iv
       unfolding recover_call recover recover_check
-      recover_done key' iv' f p q =
-          rw (e, eq-eqb (length key) (key_length c) k, eq-eqb (length iv) (iv_length c) v, found_at c area h.position f, p, q)
+      recover_done w key' iv' f p q =
+          rw (e, eq-eqb (length key) (key_length c) k, eq-eqb (length iv) (iv_length c) v, pair_of c area h.position w f, p, q)
 
 -- eight words of a key or an IV, made of the sixteen words that it was recovered from
 eight_words_lem : (w : List ℕ) (n : ℕ) → AllWords w → length w ≡ n → w ++ replicate (8 - n) 0 ≡ eight_words (bytes w)
 eight_words_lem w n ok e = rw (words_bytes w ok, e)
 
-module _ (c : Cipher) (w o : List ℕ) (ok : AllWords w) (sixteen : length w ≡ 16) (e : w ≡ o) where
-  pub key_words : (k : ℕ) (x : List ℕ) → k ≡ key_length c → x ≡ take (k / 4) (drop 0 w) ++ replicate (8 - k / 4) 0 → x ≡ eight_words (key_of c o)
+module _ (c : Cipher) (w : List ℕ) (ok : AllWords w) (sixteen : length w ≡ 16) where
+  pub key_words : (k : ℕ) (x : List ℕ) → k ≡ key_length c → x ≡ take (k / 4) (drop 0 w) ++ replicate (8 - k / 4) 0 → x ≡ eight_words (key_of c w)
   unfolding key_of
   key_words k x q p =
       let z = sizes c in
       p
       ∙ eight_words_lem (take (k / 4) w) (k / 4) (take_below (k / 4) w ok) (length-take-le (k / 4) w (omega arith))
-      ∙ rw (q, e)
+      ∙ rw q
 
-  pub iv_words : (v : ℕ) (x : List ℕ) → v ≡ iv_length c → x ≡ take (v / 4) (drop 8 w) ++ replicate (8 - v / 4) 0 → x ≡ eight_words (iv_of c o)
+  pub iv_words : (v : ℕ) (x : List ℕ) → v ≡ iv_length c → x ≡ take (v / 4) (drop 8 w) ++ replicate (8 - v / 4) 0 → x ≡ eight_words (iv_of c w)
   unfolding iv_of
   iv_words v x q p =
       let z = sizes c in
       p
       ∙ eight_words_lem (take (v / 4) (drop 8 w)) (v / 4) (take_below (v / 4) (drop 8 w) (drop_below 8 w ok)) (part_length (v / 4) 8 w (omega arith))
-      ∙ rw (q, e)
+      ∙ rw q
 
 module _ (h : Head) (string area : List ℕ) where
   pub load_refused : (n : ℕ) → load_check string (length area) ≡ refused n
@@ -206,21 +231,20 @@ module _ (h : Head) (string area : List ℕ) where
   load_refused n e = rw e
 
   module _ (c : Cipher) (position : ℕ) (rest : List ℕ) (e : load_check string (length area) ≡ load_found c position rest) where
-    pub load_none : is_filled c (filled_at c (words rest) position) ≡ false
+    pub load_none : found_at c (words rest) position ≡ None
         → record {
           refusal = 12;
           value = record { engine = engine_of h area; key = replicate 8 0; iv = replicate 8 0 };
         }
         ≡ load_call h string area
-    load_none f = load_refused 12 (e ∙ rw (none_at c (words rest) position f))
+    load_none f = load_refused 12 (e ∙ rw (no_pair c (words rest) position f))
 
-    pub load_done : (new : Head) (s key iv : List ℕ) (word : ℕ) → is_filled c (filled_at c (words rest) position) ≡ true
+    pub load_done : (new : Head) (s key iv w : List ℕ) (word : ℕ) → found_at c (words rest) position ≡ Some w
         → new ≡ head_at (code_of c) position word position → s ≡ words rest → word ≡ word_at c s position
-        → key ≡ eight_words (key_of c (origin c (filled_at c (words rest) position)))
-        → iv ≡ eight_words (iv_of c (origin c (filled_at c (words rest) position)))
+        → key ≡ eight_words (key_of c w) → iv ≡ eight_words (iv_of c w)
         → record { refusal = 0; value = record { engine = engine_of new s; key = key; iv = iv } } ≡ load_call h string area
     unfolding load_call load
-    load_done new s key iv word f p q w k v = rw (e, found_at c (words rest) position f, p, w, q, k, v)
+    load_done new s key iv w word f p q r k v = rw (e, pair_of c (words rest) position w f, p, r, q, k, v)
 
 module _ (h : Head) where
   pub spent_refused : (n : ℕ) → head_check h.code h.position ≡ refused n

@@ -1,3 +1,4 @@
 pub mod Head
 pub mod Calls
+pub mod Outcomes
 pub mod Answers
