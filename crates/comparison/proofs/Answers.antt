@@ -2,20 +2,23 @@
 use mathlib.Core.Path.{◌≡◌, refl, sym, ap, ap₂, ◌∙◌}
 use mathlib.Core.Bool.{Bool, true, false, cond}
 use mathlib.Core.List.{List, [], ◌∷◌}
-use mathlib.Core.Logic.{⊎_elim}
 use Prim.Native.Nat.{ℕ, suc, ◌+◌, ◌≤◌}
 use native.Mathlib.Omega.{arith}
 use lib.Dec.{ltb}
 use lib.ListN.{length, drop}
-use Rattle.laws.specs.Result.{Result, refused, accepted, outcome, result_of, ◌>>=◌}
-use Rattle.laws.proofs.Results.{zero_or_not}
+use Rattle.std.specs.Prelude.{Ok, Err}
+use Rattle.std.specs.Prelude as Std
+use Rattle.laws.specs.Result.{Result, refused, accepted, outcome, ◌>>=◌}
+use Rattle.refusal.specs.declared.Refusal.{Refusal}
+use Rattle.refusal.specs.Numbers.{number_of, number_in}
+use Rattle.refusal.specs.Told.{told}
+use Rattle.varint.specs.declared.Found.{Found}
 use Rattle.volume.specs.declared.Entry.{Entry}
-use Rattle.volume.specs.declared.reading.CountFound.{CountFound}
 use Rattle.volume.specs.Volume.{volume_string}
 use Rattle.volume.specs.Calls.{entries_in, check_volume}
-use Rattle.volume.specs.Found.{CountIs}
+use Rattle.volume.specs.Found.{count_in, Begins}
 use Rattle.volume.proofs.Undo.{Bytes, volume_was}
-use Rattle.volume.proofs.Volumes.{read_accepted, unread_refused, entries_refused, entries_accepted, entries_found}
+use Rattle.volume.proofs.Volumes.{check_refused, check_accepted, entries_refused, entries_accepted, entries_found}
 use Rattle.comparison.specs.declared.Part.{Part}
 use Rattle.comparison.specs.declared.Part.TheVariants as part
 use Rattle.comparison.specs.Comparison.{same_entry, same_entries, choose, part_from, compare_recordings, compare_recordings_call}
@@ -68,50 +71,44 @@ module _ (blender gauge : List ℕ) where
   unfolding compare_recordings
   refused_second b g = rw (b, g)
 
-  -- the refusal number, from those of `check_volume`
-  module _ (n : ℕ) (n-is : result_of n (tt {0}) ≡ check_volume blender) where
-    pub number_first : (n ≡ 0 → ⊥) → n ≡ (compare_recordings_call blender gauge).refusal
-    unfolding compare_recordings_call
-    number_first h = rw (refused_first (unread_refused blender n n-is h))
+  -- the refusal, from those of `check_volume`
+  pub number_first : (n : ℕ) → refused n ≡ check_volume blender → n ≡ (compare_recordings_call blender gauge).refusal
+  unfolding compare_recordings_call
+  number_first n e = rw (refused_first (check_refused blender n e))
 
-    module _ (m : ℕ) (m-is : result_of m (tt {0}) ≡ check_volume gauge) (z : n ≡ 0) where
-      pub number_second : m ≡ (compare_recordings_call blender gauge).refusal
-      unfolding compare_recordings_call
-      number_second =
-          let b = read_accepted blender n n-is z in
-          ⊎_elim
-          (λ (h : m ≡ 0). let g = read_accepted gauge m m-is h in rw (compared b.1 g.1) h)
-          (λ (h : m ≡ 0 → ⊥). rw (refused_second b.1 (unread_refused gauge m m-is h)))
-          (zero_or_not m)
+  pub number_second : (r : Std.Result (Unit {0}) Refusal) → accepted tt ≡ check_volume blender → told r ≡ check_volume gauge
+      → number_in r ≡ (compare_recordings_call blender gauge).refusal
+  unfolding compare_recordings_call
+  number_second (Ok u) b g = rw (compared (check_accepted blender b).1 (check_accepted gauge g).1)
+  number_second (Err r) b g = rw (refused_second (check_accepted blender b).1 (check_refused gauge (number_of r) g))
 
   -- the part, from what `count_entries` finds
-  module _ (b : CountFound) (b_is : CountIs blender b) where
-    pub nothing_first : (b.refusal ≡ 0 → ⊥) → part.Blender 0 0 ≡ (compare_recordings_call blender gauge).value
-    unfolding compare_recordings_call
-    nothing_first h = rw (refused_first (entries_refused blender b b_is h))
+  pub nothing_first : (n : ℕ) → refused n ≡ count_in blender → part.Blender 0 0 ≡ (compare_recordings_call blender gauge).value
+  unfolding compare_recordings_call
+  nothing_first n e = rw (refused_first (entries_refused blender n e))
 
-    pub nothing_second : (g : CountFound) → CountIs gauge g → b.refusal ≡ 0 → (g.refusal ≡ 0 → ⊥)
-        → part.Blender 0 0 ≡ (compare_recordings_call blender gauge).value
-    unfolding compare_recordings_call
-    nothing_second g g-is z h = rw (refused_second (entries_accepted blender b b_is z).1 (entries_refused gauge g g-is h))
+  pub nothing_second : (b n : ℕ) → accepted b ≡ count_in blender → refused n ≡ count_in gauge
+      → part.Blender 0 0 ≡ (compare_recordings_call blender gauge).value
+  unfolding compare_recordings_call
+  nothing_second b n e q = rw (refused_second (entries_accepted blender b e).1 (entries_refused gauge n q))
 
 -- the last entries of a recording are all its entries
-all_last : (string : List ℕ) (r : CountFound) (is : CountIs string r) (z : r.refusal ≡ 0) (entries : List Entry)
-    → entries_in string ≡ accepted entries → Last string r.first r.count entries
-all_last string r is z entries e =
-    let f = entries_found string r is z entries e in
+all_last : (string : List ℕ) (r : Found ℕ) → Begins string r → (entries : List Entry) → entries_in string ≡ accepted entries
+    → Last string r.next r.value entries
+all_last string r begin entries e =
+    let f = entries_found string r begin entries e in
     f.1 ∙ ap accepted (ap₂ (λ (x : List Entry) (y : List ℕ). record { entries = x; rest = y }) f.2 f.3)
 
-module _ (blender gauge : List ℕ) (b g : CountFound) (b_is : CountIs blender b) (g-is : CountIs gauge g) (b-accepted : b.refusal ≡ 0)
-    (g-accepted : g.refusal ≡ 0) (blender-bytes : Bytes blender) (gauge-bytes : Bytes gauge) where
-  pub part_found : (r : Part) → PartIs blender b.first b.count gauge g.first g.count r → r ≡ (compare_recordings_call blender gauge).value
+module _ (blender gauge : List ℕ) (b g : Found ℕ) (b_is : accepted b.value ≡ count_in blender) (g-is : accepted g.value ≡ count_in gauge)
+    (b-begins : Begins blender b) (g-begins : Begins gauge g) (blender-bytes : Bytes blender) (gauge-bytes : Bytes gauge) where
+  pub part_found : (r : Part) → PartIs blender b.next b.value gauge g.next g.value r → r ≡ (compare_recordings_call blender gauge).value
   unfolding compare_recordings_call
   part_found r is =
-      let x = entries_accepted blender b b_is b-accepted in
-      let y = entries_accepted gauge g g-is g-accepted in
+      let x = entries_accepted blender b.value b_is in
+      let y = entries_accepted gauge g.value g-is in
       let blenders-are = (volume_was blender x.0 blender-bytes x.1).string_is in
       let gauges-are = (volume_was gauge y.0 gauge-bytes y.1).string_is in
-      let found = is x.0 y.0 (all_last blender b b_is b-accepted x.0 x.1) (all_last gauge g g-is g-accepted y.0 y.1) in
+      let found = is x.0 y.0 (all_last blender b b-begins x.0 x.1) (all_last gauge g g-begins y.0 y.1) in
       let wanted = part_last (same_entries x.0 y.0) x.0 y.0 in
       rw (compared blender gauge x.1 y.1)
       (found ∙ by_last (length blender) (length gauge) x.0 y.0

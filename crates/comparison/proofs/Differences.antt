@@ -2,12 +2,13 @@
 use mathlib.Core.Path.{◌≡◌, refl, sym, ap₂, ◌∙◌}
 use mathlib.Core.Bool.{Bool, true, false, cond}
 use mathlib.Core.List.{List, [], ◌∷◌}
-use Prim.Native.Nat.{ℕ, suc, ◌+◌, ◌-◌, ◌<◌, ◌≤◌}
+use Prim.Native.Nat.{ℕ, suc, ◌+◌, ◌-◌, ◌<◌, ◌≤◌, min}
+use borrow.Author.Tests.{ltb-true, ltb-false}
 use native.Mathlib.Omega.{arith}
 use lib.Dec.{ltb}
 use lib.ListN.{length, drop}
+use Rattle.varint.specs.declared.Found.{Found}
 use Rattle.volume.specs.declared.Entry.{Entry}
-use Rattle.volume.specs.declared.reading.EntryFound.{EntryFound}
 use Rattle.volume.specs.Found.{EntryReadAgain}
 use Rattle.volume.proofs.EntryByEntry.{entries_count}
 use Rattle.volume.proofs.Undo.{Bytes}
@@ -67,12 +68,12 @@ module _ (blender : List ℕ) (first n : ℕ) (gauge : List ℕ) (start m : ℕ)
       record { blenders_left = blenders; gauges_left = gauges; blender_last = rw x b; gauge_last = rw y g; same_part = refl }
 
   module _ (k at there : ℕ) (come : Comes k at there) where
-    module _ (l : k < n) (j : k < m) (b g : EntryFound) (b_is : EntryReadAgain blender at b) (g-is : EntryReadAgain gauge there g) where
+    module _ (l : k < n) (j : k < m) (b g : Found Entry) (b_is : EntryReadAgain blender at b) (g-is : EntryReadAgain gauge there g) where
       -- the next entry of each and those after it
       pub record Next (blenders gauges : List Entry) : Type 0 where
         pub left : Left blenders gauges k at there
-        pub blender_first : First blender b.next (n - (k + 1)) b.entry left.blenders_left
-        pub gauge_first : First gauge g.next (m - (k + 1)) g.entry left.gauges_left
+        pub blender_first : First blender b.next (n - (k + 1)) b.value left.blenders_left
+        pub gauge_first : First gauge g.next (m - (k + 1)) g.value left.gauges_left
 
       next : (blenders gauges : List Entry) → Last blender first n blenders → Last gauge start m gauges → Next blenders gauges
       next blenders gauges p q =
@@ -85,7 +86,7 @@ module _ (blender : List ℕ) (first n : ℕ) (gauge : List ℕ) (start m : ℕ)
             gauge_first = last_first gauge there (m - (k + 1)) g left.gauges_left g-is (rw y at left.gauge_last);
           }
 
-      pub turns : same_entry b.entry g.entry ≡ true → Comes (k + 1) b.next g.next
+      pub turns : same_entry b.value g.value ≡ true → Comes (k + 1) b.next g.next
       turns e blenders gauges p q =
           let x = next blenders gauges p q in
           record {
@@ -94,26 +95,26 @@ module _ (blender : List ℕ) (first n : ℕ) (gauge : List ℕ) (start m : ℕ)
             blender_last = x.blender_first.others_last;
             gauge_last = x.gauge_first.others_last;
             same_part = x.left.same_part ∙ ap₂ part_of_both x.blender_first.entries_are x.gauge_first.entries_are
-                ∙ part_same _ _ b.entry g.entry _ _ e;
+                ∙ part_same _ _ b.value g.value _ _ e;
           }
 
       module _ (blender-bytes : Bytes blender) (gauge-bytes : Bytes gauge) (in-blender : at ≤ length blender) (in-gauge : there ≤ length gauge)
-          (e : same_entry b.entry g.entry ≡ false) where
+          (e : same_entry b.value g.value ≡ false) where
         differs : (blenders gauges : List Entry) → Last blender first n blenders → Last gauge start m gauges
             → part_of_both blenders gauges
-            ≡ cond (ltb g.entry.ratio b.entry.ratio) (gauge_rest (length gauge) there) (blender_rest (length blender) at)
+            ≡ cond (ltb g.value.ratio b.value.ratio) (gauge_rest (length gauge) there) (blender_rest (length blender) at)
         differs blenders gauges p q =
             let x = next blenders gauges p q in
             let at-is = last_begin blender at (n - k) _ blender-bytes in-blender x.left.blender_last in
             let there-is = last_begin gauge there (m - k) _ gauge-bytes in-gauge x.left.gauge_last in
             x.left.same_part ∙ ap₂ part_of_both x.blender_first.entries_are x.gauge_first.entries_are
-            ∙ part_differs _ _ b.entry g.entry _ _ e
-            ∙ ap₂ (λ (v w : ℕ). cond (ltb g.entry.ratio b.entry.ratio) (gauge_rest (length gauge) v) (blender_rest (length blender) w))
+            ∙ part_differs _ _ b.value g.value _ _ e
+            ∙ ap₂ (λ (v w : ℕ). cond (ltb g.value.ratio b.value.ratio) (gauge_rest (length gauge) v) (blender_rest (length blender) w))
             (sym (rw (← x.gauge_first.entries_are) there-is)) (sym (rw (← x.blender_first.entries_are) at-is))
 
-        pub differ : (r : Part) (smaller : Bool) → ltb g.entry.ratio b.entry.ratio ≡ smaller
-            → r ≡ cond smaller (gauge_rest (length gauge) there) (blender_rest (length blender) at) → PartIs blender first n gauge start m r
-        differ r smaller t h blenders gauges p q = h ∙ sym (differs blenders gauges p q ∙ rw t)
+        pub differ : (r : Part) → r ≡ cond (ltb g.value.ratio b.value.ratio) (gauge_rest (length gauge) there) (blender_rest (length blender) at)
+            → PartIs blender first n gauge start m r
+        differ r h blenders gauges p q = h ∙ sym (differs blenders gauges p q)
 
     module _ (r : Part) where
       pub gauge_has_ended : Bytes blender → at ≤ length blender → m ≤ k → r ≡ blender_rest (length blender) at → PartIs blender first n gauge start m r
@@ -133,3 +134,10 @@ module _ (blender : List ℕ) (first n : ℕ) (gauge : List ℕ) (start m : ℕ)
           let count = entries_count (m - k) (drop there gauge) _ left.gauge_last in
           let there-is = last_begin gauge there (m - k) _ bytes within left.gauge_last in
           h ∙ sym (left.same_part ∙ rw (none, gauge_longer _ _ left.gauges_left (omega arith), ← there-is))
+
+      -- one of the two has ended, or both have
+      pub ended : Bytes blender → Bytes gauge → at ≤ length blender → there ≤ length gauge → min n m ≤ k → k ≤ min n m
+          → (longer : Bool) → ltb n m ≡ longer → r ≡ cond longer (gauge_rest (length gauge) there) (blender_rest (length blender) at)
+          → PartIs blender first n gauge start m r
+      ended b g i j l h true t e = let lt = ltb-true n m t in blender_has_ended g j (omega arith) (omega arith) e
+      ended b g i j l h false t e = let ge = ltb-false n m t in gauge_has_ended b i (omega arith) e

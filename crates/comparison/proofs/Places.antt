@@ -7,8 +7,8 @@ use lib.ListN.{length, take, drop, length-append, length-drop}
 use Rattle.laws.specs.Result.{accepted}
 use Rattle.laws.proofs.Lists.{drop_below}
 use Rattle.varint.specs.Number.{number}
+use Rattle.varint.specs.declared.Found.{Found}
 use Rattle.volume.specs.declared.Entry.{Entry}
-use Rattle.volume.specs.declared.reading.EntryFound.{EntryFound}
 use Rattle.volume.specs.Volume.{entry_string, entries_string, volume_string}
 use Rattle.volume.specs.Calls.{EntryRead, EntriesRead}
 use Rattle.volume.specs.Found.{EntryReadAgain}
@@ -33,8 +33,8 @@ pub record First (string : List ℕ) (next n : ℕ) (e : Entry) (entries : List 
   pub entries_are : entries ≡ e ∷ others
   pub others_last : Last string next n others
 
-pub last_first : (string : List ℕ) (at n : ℕ) (r : EntryFound) (entries : List Entry) → EntryReadAgain string at r → Last string at (suc n) entries
-    → First string r.next n r.entry entries
+pub last_first : (string : List ℕ) (at n : ℕ) (r : Found Entry) (entries : List Entry) → EntryReadAgain string at r → Last string at (suc n) entries
+    → First string r.next n r.value entries
 last_first string at n r entries again last =
     let f = entries_first n (drop at string) _ last in
     let first = again f.first f.first_is in

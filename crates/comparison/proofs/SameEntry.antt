@@ -1,9 +1,9 @@
 -- `same_entry` answers true of equal entries and of no others. Assumes nothing.
-use mathlib.Core.Path.{◌≡◌, refl}
-use mathlib.Core.Bool.{true, ◌&&◌}
+use mathlib.Core.Path.{◌≡◌, refl, sym, ◌∙◌}
+use mathlib.Core.Bool.{Bool, true, false, not, ◌&&◌}
 use borrow.Author.Tests.{eq-eqb, eqb-true}
 use lib.Dec.{eqb}
-use Rattle.laws.proofs.Same.{and_left, and_right}
+use Rattle.laws.proofs.Same.{and_left, and_right, not-true, not-false}
 use Rattle.volume.specs.declared.Entry.{Entry}
 use Rattle.comparison.specs.Comparison.{same_entry}
 
@@ -29,3 +29,21 @@ equal_same e =
       eq-eqb e.ratio e.ratio refl,
       eq-eqb e.product e.product refl,
     )
+
+-- `==` of two entries compares their numbers in the same order
+abbrev equal : (b g : Entry) → Bool
+equal b g = eqb b.minutes g.minutes && (eqb b.litres g.litres && (eqb b.ratio g.ratio && eqb b.product g.product))
+
+regrouped : (m l r p : Bool) → (m && (l && (r && p))) ≡ (m && l && r && p)
+regrouped true true r p = refl
+regrouped true false r p = refl
+regrouped false l r p = refl
+
+pub equal_is_same : (b g : Entry) → equal b g ≡ same_entry b g
+equal_is_same b g = regrouped (eqb b.minutes g.minutes) (eqb b.litres g.litres) (eqb b.ratio g.ratio) (eqb b.product g.product)
+
+pub unequal : (b g : Entry) → not (equal b g) ≡ true → same_entry b g ≡ false
+unequal b g e = sym (equal_is_same b g) ∙ not-true (equal b g) e
+
+pub not_unequal : (b g : Entry) → not (equal b g) ≡ false → same_entry b g ≡ true
+not_unequal b g e = sym (equal_is_same b g) ∙ not-false (equal b g) e

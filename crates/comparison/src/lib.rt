@@ -3,16 +3,19 @@
 // handed back.
 #![tactic(auto)]
 
-ghost use Rattle.std.specs.Prelude.{◌≡◌, ◌≤◌, length};
+ghost use Rattle.std.specs.Prelude.{◌≡◌, ◌≤◌, cond, length};
+ghost use Rattle.refusal.specs.Numbers.{number_in};
 ghost use Rattle.comparison.specs.Comparison as Comparison;
 ghost use Rattle.comparison.specs.Parts as Parts;
-ghost use Rattle.comparison.specs.Found as Found;
+ghost use Rattle.comparison.specs.Found.{PartIs, blender_rest, gauge_rest};
 
-use volume::Entry;
-use volume::reading::{CountFound, count_entries, read_entry};
+use refusal::Refusal;
+use varint::Found;
+use volume::check_volume;
+use volume::reading::{count_entries, read_entry};
 
 // Part of one of the two buffers: so many bytes of it, from byte `from` on.
-#[derive(Clone, Copy)]
+#[derive(Clone, Copy, Debug, PartialEq, Eq)]
 pub enum Part {
     Blender { from: usize, length: usize },
     Gauge { from: usize, length: usize },
@@ -27,100 +30,85 @@ pub struct PartAnswer {
     pub length: usize,
 }
 
-// Whether two entries have the same four numbers.
-fn same_entry(b: Entry, g: Entry) -> bool
-    ensures { result ≡ Comparison.same_entry b g }
-{
-    if b.minutes != g.minutes {
-        return false;
-    }
-    if b.litres != g.litres {
-        return false;
-    }
-    if b.ratio != g.ratio {
-        return false;
-    }
-    b.product == g.product
-}
+impl From<Part> for PartAnswer {
+    ghost from_gives = { λ part answer. answer ≡ Comparison.for_c part };
 
-// The blender's bytes from place `at` to their end.
-fn blender_rest(blender: &[u8], at: usize) -> Part
-    requires { at ≤ length blender.now }
-    ensures { result ≡ Found.blender_rest (length blender.now) at }
-{
-    Part::Blender {
-        from: at,
-        length: blender.len() - at,
+    fn from(part: Part) -> PartAnswer {
+        let (recording, from, length) = match part {
+            Part::Blender { from, length } => (0, from, length),
+            Part::Gauge { from, length } => (1, from, length),
+        };
+        PartAnswer {
+            recording: recording,
+            from: from,
+            length: length,
+        }
     }
 }
 
-// The gauge's bytes from place `at` to their end.
-fn gauge_rest(gauge: &[u8], at: usize) -> Part
-    requires { at ≤ length gauge.now }
-    ensures { result ≡ Found.gauge_rest (length gauge.now) at }
+// The bytes of one of the two recordings from the place to which it has come to its end: the gauge's or the blender's.
+fn rest(of_gauge: bool, blender: &[u8], blender_at: usize, gauge: &[u8], gauge_at: usize) -> Part
+    requires { (blender_at ≤ length blender.now) × (gauge_at ≤ length gauge.now) }
+    ensures { result ≡ cond of_gauge (gauge_rest (length gauge.now) gauge_at) (blender_rest (length blender.now) blender_at) }
 {
-    Part::Gauge {
-        from: at,
-        length: gauge.len() - at,
+    if of_gauge {
+        Part::Gauge {
+            from: gauge_at,
+            length: gauge.len() - gauge_at,
+        }
+    } else {
+        Part::Blender {
+            from: blender_at,
+            length: blender.len() - blender_at,
+        }
     }
 }
 
 // The part handed back of two volumes, with so many entries that begin at these places.
-fn first_difference(blender: &[u8], blenders: CountFound, gauge: &[u8], gauges: CountFound) -> Part
-    requires { (blenders.first ≤ length blender.now) × (gauges.first ≤ length gauge.now) }
-    ensures { Found.PartIs blender.now blenders.first blenders.count gauge.now gauges.first gauges.count result }
+fn first_difference(
+    blender: &[u8],
+    blenders: Found<usize>,
+    gauge: &[u8],
+    gauges: Found<usize>,
+) -> Part
+    requires { (blenders.next ≤ length blender.now) × (gauges.next ≤ length gauge.now) }
+    ensures { PartIs blender.now blenders.next blenders.value gauge.now gauges.next gauges.value result }
 {
-    let n = blenders.count;
-    let m = gauges.count;
-    let mut blender_at = blenders.first;
-    let mut gauge_at = gauges.first;
-    let mut k = 0;
-    while k < n {
-        if k == m {
-            return blender_rest(blender, blender_at); // the gauge's has ended
-        }
+    let mut blender_at = blenders.next;
+    let mut gauge_at = gauges.next;
+    for k in 0..blenders.value.min(gauges.value) {
         let b = read_entry(blender, blender_at);
         let g = read_entry(gauge, gauge_at);
-        if !same_entry(b.entry, g.entry) {
-            if g.entry.ratio < b.entry.ratio {
-                return gauge_rest(gauge, gauge_at);
-            }
-            return blender_rest(blender, blender_at);
+        if b.value != g.value {
+            let smaller = g.value.ratio < b.value.ratio;
+            return rest(smaller, blender, blender_at, gauge, gauge_at);
         }
         blender_at = b.next;
         gauge_at = g.next;
-        k += 1;
     }
-    if k < m {
-        return gauge_rest(gauge, gauge_at); // the blender's has ended
-    }
-    blender_rest(blender, blender_at) // both have
+    let longer = blenders.value < gauges.value; // the blender's has ended, and the gauge's has not
+    rest(longer, blender, blender_at, gauge, gauge_at)
 }
 
 // The part handed back of two recordings; the empty beginning of the blender's buffer where the pair is refused.
 pub fn find_part(blender: &[u8], gauge: &[u8]) -> Part
     ensures { result ≡ (Comparison.compare_recordings_call blender.now gauge.now).value }
 {
-    let blenders = count_entries(blender);
-    if blenders.refusal != 0 {
+    let Ok(blenders) = count_entries(blender) else {
         return Part::Blender { from: 0, length: 0 };
-    }
-    let gauges = count_entries(gauge);
-    if gauges.refusal != 0 {
+    };
+    let Ok(gauges) = count_entries(gauge) else {
         return Part::Blender { from: 0, length: 0 };
-    }
+    };
     first_difference(blender, blenders, gauge, gauges)
 }
 
-// Checks two recordings: 0, or the number of a refused pair, as volume reading refuses, the blender's first.
-pub fn check_recordings(blender: &[u8], gauge: &[u8]) -> u64
-    ensures { result ≡ (Comparison.compare_recordings_call blender.now gauge.now).refusal }
+// Checks two recordings, as volume reading does, the blender's first.
+pub fn check_recordings(blender: &[u8], gauge: &[u8]) -> Result<(), Refusal>
+    ensures { number_in result ≡ (Comparison.compare_recordings_call blender.now gauge.now).refusal }
 {
-    let refusal = volume::check_volume(blender);
-    if refusal != 0 {
-        return refusal;
-    }
-    volume::check_volume(gauge)
+    check_volume(blender)?;
+    check_volume(gauge)
 }
 
 // Compares two recordings: hands back the bytes from the first place where they don't have the same entry to the end of one of them, as part of the
@@ -129,8 +117,7 @@ pub fn compare_recordings<'a>(blender: &'a [u8], gauge: &'a [u8]) -> &'a [u8]
     ensures { Parts.slice_of result
         ≡ Parts.slice_in blender.entry gauge.entry (Comparison.compare_recordings_call blender.now gauge.now).value }
 {
-    let part = find_part(blender, gauge);
-    match part {
+    match find_part(blender, gauge) {
         Part::Blender { from, length } => &blender[from..from + length],
         Part::Gauge { from, length } => &gauge[from..from + length],
     }

@@ -4,14 +4,14 @@
 ghost use Rattle.std.specs.Prelude.{◌≡◌};
 ghost use Rattle.comparison.specs.Comparison as Comparison;
 
-use comparison::{Part, PartAnswer};
+use comparison::PartAnswer;
 
 // Check recordings: 0, or the number of a refused pair.
 #[unsafe(no_mangle)]
 pub extern "C" fn hc_check_recordings(blender: &[u8], gauge: &[u8]) -> u64
     ensures { result ≡ (Comparison.compare_recordings_call blender.now gauge.now).refusal }
 {
-    comparison::check_recordings(blender, gauge)
+    refusal::number_of(comparison::check_recordings(blender, gauge))
 }
 
 // Compare recordings: which bytes of which recording are handed back.
@@ -19,17 +19,5 @@ pub extern "C" fn hc_check_recordings(blender: &[u8], gauge: &[u8]) -> u64
 pub extern "C" fn hc_compare_recordings(blender: &[u8], gauge: &[u8]) -> PartAnswer
     ensures { result ≡ Comparison.for_c (Comparison.compare_recordings_call blender.now gauge.now).value }
 {
-    let part = comparison::find_part(blender, gauge);
-    match part {
-        Part::Blender { from, length } => PartAnswer {
-            recording: 0,
-            from: from,
-            length: length,
-        },
-        Part::Gauge { from, length } => PartAnswer {
-            recording: 1,
-            from: from,
-            length: length,
-        },
-    }
+    comparison::find_part(blender, gauge).into()
 }
