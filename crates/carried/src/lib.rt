@@ -113,7 +113,7 @@ fn word_256(p: bool, area: &mut [u32], x: Indices) -> u32
     let at = x.places(Cipher::Hc256, p);
     let t = Cipher::Hc256.table_words();
     let b = t - tables::start_a(t, p);
-    let g = functions::g_256(&area[b..], area[at.minus3], area[at.plus1]);
+    let g = functions::g_256(&area[b..], 0, area[at.minus3], area[at.plus1]);
     area[at.j] = area[at.j].wrapping_add(area[at.minus10].wrapping_add(g));
     functions::h(Cipher::Hc256, &area[b..], area[at.minus12]) ^ area[at.j]
 }

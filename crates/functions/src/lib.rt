@@ -1,7 +1,7 @@
 // The functions g and h of the two ciphers, and with them the feedback and h(A[j-12]) by cipher, where P changes or Q.
 #![tactic(auto)]
 
-ghost use Rattle.std.specs.Prelude.{◌≡◌, ◌≤◌, ◌<◌, length};
+ghost use Rattle.std.specs.Prelude.{◌≡◌, ◌+◌, ◌≤◌, ◌<◌, length};
 ghost use Rattle.cipher.specs.Numbers.{table_length, area_length};
 ghost use Rattle.functions.specs.Functions as Functions;
 ghost use Rattle.functions.specs.Functions.{table};
@@ -28,34 +28,34 @@ fn g_128(p: bool, x: u32, y: u32, z: u32) -> u32
     (rotate(p, x, 10) ^ rotate(p, z, 23)).wrapping_add(rotate(p, y, 8))
 }
 
-// g of HC-256, where the words lent begin with the table that is looked up.
-pub fn g_256(words: &[u32], x: u32, y: u32) -> u32
-    requires { 1024 ≤ length words.now }
-    ensures { result ≡ Functions.g256 (table words.now 0) x y }
+// g of HC-256, where the table that is looked up begins at b.
+pub fn g_256(area: &[u32], b: usize, x: u32, y: u32) -> u32
+    requires { b + 1024 ≤ length area.now }
+    ensures { result ≡ Functions.g256 (table area.now b) x y }
 {
-    let looked_up = words[((x ^ y) % 1024) as usize];
-    (word::rotate_right(x, 10) ^ word::rotate_right(y, 23)).wrapping_add(looked_up)
+    let rotated = word::rotate_right(x, 10) ^ word::rotate_right(y, 23);
+    rotated.wrapping_add(area[b + ((x ^ y) % 1024) as usize])
 }
 
-// h of HC-128, where the words lent begin with the table that is looked up.
-fn h_128(words: &[u32], x: u32) -> u32
-    requires { 512 ≤ length words.now }
-    ensures { result ≡ Functions.h128 (table words.now 0) x }
+// h of HC-128, where the table that is looked up begins at b.
+fn h_128(area: &[u32], b: usize, x: u32) -> u32
+    requires { b + 512 ≤ length area.now }
+    ensures { result ≡ Functions.h128 (table area.now b) x }
 {
     let [x0, _, x2, _] = word::to_bytes(x);
-    words[usize::from(x0)].wrapping_add(words[256 + usize::from(x2)])
+    area[b + usize::from(x0)].wrapping_add(area[b + 256 + usize::from(x2)])
 }
 
-// h of HC-256, where the words lent begin with the table that is looked up.
-fn h_256(words: &[u32], x: u32) -> u32
-    requires { 1024 ≤ length words.now }
-    ensures { result ≡ Functions.h256 (table words.now 0) x }
+// h of HC-256, where the table that is looked up begins at b.
+fn h_256(area: &[u32], b: usize, x: u32) -> u32
+    requires { b + 1024 ≤ length area.now }
+    ensures { result ≡ Functions.h256 (table area.now b) x }
 {
     let [x0, x1, x2, x3] = word::to_bytes(x);
-    words[usize::from(x0)]
-        .wrapping_add(words[256 + usize::from(x1)])
-        .wrapping_add(words[512 + usize::from(x2)])
-        .wrapping_add(words[768 + usize::from(x3)])
+    area[b + usize::from(x0)]
+        .wrapping_add(area[b + 256 + usize::from(x1)])
+        .wrapping_add(area[b + 512 + usize::from(x2)])
+        .wrapping_add(area[b + 768 + usize::from(x3)])
 }
 
 // The word w with d put on it, or taken off where `back` holds.
@@ -70,7 +70,9 @@ fn put(back: bool, w: u32, d: u32) -> u32
 }
 
 // The word w with the feedback put on it, or taken off where `back` holds; x, y and z are A[j-3], A[j-10] and A[j+1], and p tells whether P changes.
-// Each case is told apart by a test, so that in a loop's copy for that case the table looked up begins at a constant.
+// Each case is told apart by a test, so that in a loop's copy for that case the table looked up begins at a constant; as a part of the area its place
+// is one more variable of the loop, and HC-256 slower. `back` is a constant at each call, and the word is given so that the sum can be ordered.
+#[tactic(auto, unfolding(crate::specs::ByCipher::feedback_of))]
 pub fn with_feedback(
     cipher: Cipher,
     back: bool,
@@ -87,31 +89,33 @@ pub fn with_feedback(
     match (cipher, p) {
         (Cipher::Hc128, true) => put(back, w, g_128(true, x, y, z)),
         (Cipher::Hc128, false) => put(back, w, g_128(false, x, y, z)),
-        (Cipher::Hc256, true) => put(back, w, y.wrapping_add(g_256(&area[1024..], x, z))),
-        (Cipher::Hc256, false) => put(back, w, y.wrapping_add(g_256(area, x, z))),
+        (Cipher::Hc256, true) => put(back, w, y.wrapping_add(g_256(area, 1024, x, z))),
+        (Cipher::Hc256, false) => put(back, w, y.wrapping_add(g_256(area, 0, x, z))),
     }
 }
 
 // h(x), where the words lent begin with the table that is looked up.
+#[tactic(auto, unfolding(crate::specs::ByCipher::h_of))]
 pub fn h(cipher: Cipher, words: &[u32], x: u32) -> u32
     requires { table_length cipher ≤ length words.now }
     ensures { result ≡ ByCipher.h_of cipher (table words.now 0) x }
 {
     match cipher {
-        Cipher::Hc128 => h_128(words, x),
-        Cipher::Hc256 => h_256(words, x),
+        Cipher::Hc128 => h_128(words, 0, x),
+        Cipher::Hc256 => h_256(words, 0, x),
     }
 }
 
 // h(x), where p tells whether P changes.
+#[tactic(auto, unfolding(crate::specs::ByCipher::filter_of, crate::specs::ByCipher::h_of))]
 pub fn filter(cipher: Cipher, area: &[u32], p: bool, x: u32) -> u32
     requires { length area.now ≡ area_length cipher }
     ensures { result ≡ ByCipher.filter_of cipher p area.now x }
 {
     match (cipher, p) {
-        (Cipher::Hc128, true) => h_128(&area[512..], x),
-        (Cipher::Hc128, false) => h_128(area, x),
-        (Cipher::Hc256, true) => h_256(&area[1024..], x),
-        (Cipher::Hc256, false) => h_256(area, x),
+        (Cipher::Hc128, true) => h_128(area, 512, x),
+        (Cipher::Hc128, false) => h_128(area, 0, x),
+        (Cipher::Hc256, true) => h_256(area, 1024, x),
+        (Cipher::Hc256, false) => h_256(area, 0, x),
     }
 }
