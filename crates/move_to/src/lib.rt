@@ -2,16 +2,16 @@
 #![tactic(auto)]
 
 ghost use Rattle.std.specs.Prelude.{◌≡◌};
-ghost use Rattle.engine.specs.Answers as Answers;
 ghost use Rattle.engine.specs.Calls as Calls;
+ghost use Rattle.engine.specs.Outcomes as Outcomes;
 ghost use Rattle.move_to.specs.MoveTo as Moves;
 
 use engine::Head;
-use engine::answers::Done;
+use engine::answers::Next;
 
 // Moves head and tables to a position. From a position over the limit, and to one, the move is refused whatever the distance.
-pub fn move_to(head: Head, area: &mut [u32], position: u64) -> Done
-    ensures { Answers.done result.refusal result.head area.new
+pub fn move_to(head: Head, area: &mut [u32], position: u64) -> Next<()>
+    ensures { Outcomes.done result.answer result.head area.new
         ≡ Moves.move_to position (Calls.engine_of head area.old) }
 {
     let here = head.position;
