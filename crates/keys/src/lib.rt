@@ -10,6 +10,7 @@ ghost use Rattle.keys.specs.Key as Key;
 use cipher::Cipher;
 
 // Word k of a string of bytes.
+#[tactic(auto, using(word::proofs::Bytes::words_at))]
 fn word_at(b: &[u8], k: usize) -> u32
     requires { (4 * k + 3 < length b.now) × (k < 16) }
     ensures { result ≡ get_or (Bytes.words b.now) k 0 }
@@ -26,6 +27,7 @@ fn key_words(cipher: Cipher) -> usize
 }
 
 // W0..15 of a key and an IV.
+#[tactic(auto, using(crate::proofs::Sixteen::sixteen_is))]
 pub fn sixteen_words(cipher: Cipher, key: &[u8], iv: &[u8]) -> [u32; 16]
     requires { (length key.now ≡ key_length cipher) × (length iv.now ≡ iv_length cipher) }
     ensures { result ≡ Key.sixteen cipher key.now iv.now }
@@ -50,6 +52,7 @@ fn store_bytes(words: &[u32], out: &mut [u8])
 }
 
 // Fills the two buffers with the key and the IV of W0..15.
+#[tactic(auto, unfolding(crate::specs::Key::key_of, crate::specs::Key::iv_of))]
 pub fn store_key_and_iv(cipher: Cipher, w: [u32; 16], key: &mut [u8], iv: &mut [u8])
     requires { (length key.old ≡ key_length cipher) × (length iv.old ≡ iv_length cipher) }
     ensures { (key.new ≡ Key.key_of cipher w) × (iv.new ≡ Key.iv_of cipher w) }
@@ -59,6 +62,7 @@ pub fn store_key_and_iv(cipher: Cipher, w: [u32; 16], key: &mut [u8], iv: &mut [
 }
 
 // Whether the words that have to stand twice do.
+#[tactic(auto, using(crate::proofs::Sixteen::doubled_is), unfolding(crate::specs::Key::doubled))]
 pub fn doubled(cipher: Cipher, w: [u32; 16]) -> bool
     ensures { result ≡ Key.doubled cipher w }
 {

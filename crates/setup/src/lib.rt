@@ -9,6 +9,7 @@ ghost use Rattle.setup.specs.LedBack.{LedBack};
 use cipher::Cipher;
 
 // The area of a key and an IV.
+#[tactic(auto, unfolding(crate::specs::SetUp::set_up))]
 pub fn set_up(cipher: Cipher, key: &[u8], iv: &[u8], area: &mut [u32])
     requires { (length key.now ≡ key_length cipher) × (length iv.now ≡ iv_length cipher) × (length area.old ≡ area_length cipher) }
     ensures { area.new ≡ SetUp.set_up cipher key.now iv.now }
