@@ -70,6 +70,7 @@ fn next_at(words: &[u32], k: usize, w2: u32, n: usize) -> u32
 }
 
 // Makes each word from the seventeenth on of the sixteen before it, where the first word is Wn: four in a row, the last two carried.
+#[tactic(auto, using(crate::proofs::Run::going_four))]
 fn go_on(words: &mut [u32], n: usize)
     requires { (16 ≤ length words.old) × (length words.old % 4 ≡ 0) × (n + length words.old ≤ 4096) }
     ensures { (take 16 words.new ≡ take 16 words.old) × Window.Run n words.new }
