@@ -1,35 +1,24 @@
 -- What the functions of a test load leave, by the calls that they make. Assumes nothing.
 use mathlib.Core.Path.{◌≡◌, refl, sym, ap, ◌∙◌}
-use mathlib.Core.List.{List, ◌∷◌}
-use Prim.Native.Nat.{ℕ, zero, suc, ◌+◌, ◌-◌, ◌/◌, ◌%◌, ◌≤◌, ◌<◌}
+use mathlib.Core.List.{List}
+use Prim.Native.Nat.{ℕ, suc, ◌+◌, ◌-◌, ◌/◌, ◌%◌, ◌≤◌, ◌<◌}
 use native.Mathlib.Nat.{sub-zero}
 use native.Mathlib.Omega.{arith}
 use borrow.Author.Tests.{eq-eqb, ne_eqb, le-leb, lt-leb}
 use lib.Dec.{eqb}
-use lib.ListN.{length, take, replicate}
+use lib.ListN.{length, replicate}
 use Rattle.laws.specs.Result.{Result, refused, accepted, Outcome}
 use Rattle.laws.proofs.Results.{no_refusal, refused_iff, after_without, after_unless}
 use Rattle.cipher.specs.declared.Cipher.{Cipher}
 use Rattle.cipher.specs.Numbers.{by_code, area_length, key_length, iv_length}
 use Rattle.conditions.specs.Conditions.{set_up_check}
 use Rattle.engine.specs.declared.Head.{Head}
-use Rattle.engine.specs.declared.answers.Done.{Done}
 use Rattle.engine.specs.Calls.{Engine, engine_of, Ciphered, set_up, set_up_call, cipher_call}
-use Rattle.engine.specs.Answers.{done}
 use Rattle.move_to.specs.MoveTo.{move_to}
 use Rattle.test_load.specs.Words.{next_word, move_to_byte, cipher_zeros, call_of, generated_calls}
 use Rattle.test_load.specs.TestLoad.{run_call, run_calls, seed_and_count, test_load, test_load_call}
 
 -- ---- the call of a word
-
--- the first n of m equal elements
-first_equal : {A : Type 0} (n m : ℕ) (a : A) → n ≤ m → take n (replicate m a) ≡ replicate n a
-first_equal zero m a l = refl
-first_equal (suc n) zero a l = absurd (omega arith)
-first_equal (suc n) (suc m) a l = ap (λ (x : List _). a ∷ x) (first_equal n m a (omega arith))
-
-pub first_zeros : (n m : ℕ) → n ≤ m → take {A = ℕ} (n - 0) (replicate m 0) ≡ replicate n 0
-first_zeros n m l = rw sub-zero (first_equal n m 0 l)
 
 module _ (w : ℕ) where
   pub even_moves : w % 2 ≡ 0 → call_of w ≡ move_to_byte (w / 2 % 4096)
@@ -54,24 +43,24 @@ ran_cipher h area bytes n o e z = ap (λ (x : Outcome Ciphered). x.value.engine)
 
 -- what is left to do once k of n words have given their calls: the calls of the other words, from the last word on
 module _ (seed n : ℕ) (first : Engine) where
-  abbrev pub Runs : (k word : ℕ) → Engine → Type 0
-  Runs k word e = run_calls (generated_calls word (n - k)) e ≡ run_calls (generated_calls seed n) first
+  pub record Runs (k word : ℕ) (e : Engine) : Type 0 where
+    pub same : run_calls (generated_calls word (n - k)) e ≡ run_calls (generated_calls seed n) first
 
   pub run_starts : Runs 0 seed first
-  run_starts = rw sub-zero
+  run_starts = record { same = rw sub-zero }
 
   pub run_turns : (k word : ℕ) (e : Engine) → Runs k word e → k < n → (word' : ℕ) → word' ≡ next_word word
       → (e' : Engine) → e' ≡ run_call (call_of word') e → Runs (k + 1) word' e'
   unfolding run_calls generated_calls
   run_turns k word e r l word' p e' q =
       let z : n - k ≡ suc (n - (k + 1)) = omega arith in
-      rw (q, p) (rw z at r)
+      record { same = rw (q, p) (rw z at r.same) }
 
   pub run_ends : (k word : ℕ) (e : Engine) → Runs k word e → n ≤ k → e ≡ run_calls (generated_calls seed n) first
   unfolding run_calls generated_calls
   run_ends k word e r l =
       let z : n - k ≡ 0 = omega arith in
-      rw z at r
+      rw z at r.same
 
 -- ---- the load
 
@@ -104,25 +93,38 @@ module _ (h : Head) (seed count code : ℕ) (key iv area : List ℕ) where
     unfolding test_load_call test_load seed_and_count
     many_calls l = rw (ne_eqb seed 0 s, lt-leb count 1000 l)
 
-    module _ (l : count ≤ 1000) (r : Done) (area' : List ℕ) (e : done r.refusal r.head area' ≡ set_up_call h code key iv area) where
-      not_set_up : (x : Result Engine) → set_up code key iv area ≡ x → (r.refusal ≡ 0 → ⊥)
-          → done r.refusal r.head area' ≡ test_load_call h seed count code key iv area
+    -- `n`, `new` and `area'` are what the set up leaves
+    module _ (l : count ≤ 1000) (n : ℕ) (new : Head) (area' : List ℕ)
+        (e : record { refusal = n; value = engine_of new area' } ≡ set_up_call h code key iv area) where
+      not_set_up : (x : Result Engine) → set_up code key iv area ≡ x → (n ≡ 0 → ⊥)
+          → record { refusal = n; value = engine_of h area' } ≡ test_load_call h seed count code key iv area
       unfolding test_load_call test_load seed_and_count set_up_call
-      not_set_up (refused n) q z = rw (ne_eqb seed 0 s, le-leb count 1000 l, q) (rw q at e)
+      not_set_up (refused m) q z =
+          let o = rw q at e in
+          rw (
+            ne_eqb seed 0 s,
+            le-leb count 1000 l,
+            q,
+            ap (λ (y : Outcome Engine). y.refusal) o,
+            ap (λ (y : Outcome Engine). y.value.area) o,
+          )
       not_set_up (accepted x) q z = absurd (z (ap (λ (o : Outcome Engine). o.refusal) (rw q at e)))
 
-      pub set_up_refused : (r.refusal ≡ 0 → ⊥) → done r.refusal r.head area' ≡ test_load_call h seed count code key iv area
+      pub set_up_refused : (n ≡ 0 → ⊥)
+          → record { refusal = n; value = engine_of h area' } ≡ test_load_call h seed count code key iv area
       set_up_refused = not_set_up (set_up code key iv area) refl
 
-      is_set_up : (new : Head) (area'' : List ℕ) (x : Result Engine) → set_up code key iv area ≡ x → r.refusal ≡ 0
-          → engine_of new area'' ≡ run_calls (generated_calls seed count) (engine_of r.head area')
-          → done 0 new area'' ≡ test_load_call h seed count code key iv area
+      is_set_up : (last : Head) (area'' : List ℕ) (x : Result Engine) → set_up code key iv area ≡ x → n ≡ 0
+          → engine_of last area'' ≡ run_calls (generated_calls seed count) (engine_of new area')
+          → record { refusal = 0; value = engine_of last area'' } ≡ test_load_call h seed count code key iv area
       unfolding test_load_call test_load seed_and_count set_up_call
-      is_set_up new area'' (refused n) q z t =
-          let m : n ≡ 0 = sym (ap (λ (o : Outcome Engine). o.refusal) (rw q at e)) ∙ z in absurd (set_up_not_0 code key iv area (rw m at q))
-      is_set_up new area'' (accepted x) q z t =
-          rw (ne_eqb seed 0 s, le-leb count 1000 l, q) (ap (λ (y : Engine). record { refusal = 0; value = y }) (rw (ap (λ (o : Outcome Engine). o.value) (rw q at e)) at t))
+      is_set_up last area'' (refused m) q z t =
+          let y : m ≡ 0 = sym (ap (λ (o : Outcome Engine). o.refusal) (rw q at e)) ∙ z in absurd (set_up_not_0 code key iv area (rw y at q))
+      is_set_up last area'' (accepted x) q z t =
+          rw (ne_eqb seed 0 s, le-leb count 1000 l, q)
+          (ap (λ (y : Engine). record { refusal = 0; value = y }) (rw (ap (λ (o : Outcome Engine). o.value) (rw q at e)) at t))
 
-      pub calls_run : (new : Head) (area'' : List ℕ) → r.refusal ≡ 0 → engine_of new area'' ≡ run_calls (generated_calls seed count) (engine_of r.head area')
-          → done 0 new area'' ≡ test_load_call h seed count code key iv area
-      calls_run new area'' = is_set_up new area'' (set_up code key iv area) refl
+      pub calls_run : (last : Head) (area'' : List ℕ) → n ≡ 0
+          → engine_of last area'' ≡ run_calls (generated_calls seed count) (engine_of new area')
+          → record { refusal = 0; value = engine_of last area'' } ≡ test_load_call h seed count code key iv area
+      calls_run last area'' = is_set_up last area'' (set_up code key iv area) refl
