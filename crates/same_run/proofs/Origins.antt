@@ -1,24 +1,25 @@
 -- What a checkpoint's string leads back to, and that two times sixteen words are the same exactly where their keys and IVs are. Assumes nothing.
 use mathlib.Core.Path.{◌≡◌, refl, sym, ap, ap₂, ◌∙◌}
-use mathlib.Core.Bool.{true, false, ◌&&◌}
+use mathlib.Core.Bool.{true, ◌&&◌}
 use mathlib.Core.List.{List}
 use Prim.Native.Nat.{ℕ}
-use native.Mathlib.Omega.{arith}
-use lib.ListN.{length, replicate}
+use lib.Dec.{eqb}
+use lib.ListN.{length}
+use lib.Pointwise.{pointwise, bytes_decides}
+use Rattle.std.specs.Prelude.{Some, None, Ok}
 use Rattle.laws.specs.Same.{same}
 use Rattle.laws.specs.Result.{refused}
 use Rattle.laws.proofs.Same.{and_left, and_right, true_alike, equal_same, same_equal}
 use Rattle.word.specs.Bytes.{words, AllWords}
 use Rattle.cipher.specs.declared.Cipher.{Cipher}
-use Rattle.cipher.specs.declared.Cipher.TheVariants.{Hc128}
 use Rattle.keys.specs.Key.{sixteen, doubled, key_of, iv_of}
 use Rattle.keys.proofs.Sixteen.{sixteen_back}
 use Rattle.schedule.specs.Expansion.{filled}
 use Rattle.schedule.specs.Origin.{origin, is_filled}
-use Rattle.recovery.specs.Recovery.{filled_at}
+use Rattle.schedule.proofs.Pair.{some_filled, none_filled}
+use Rattle.recovery.specs.Recovery.{filled_at, found_at}
 use Rattle.conditions.specs.Conditions.{load_found, string_check}
-use Rattle.conditions.proofs.Undo.{none_at, found_at}
-use Rattle.same_run.specs.declared.Origin.{Origin}
+use Rattle.conditions.proofs.Undo.{none_at, found_at as key_at}
 use Rattle.same_run.specs.Found.{OriginIs}
 
 -- where an area is filled, the words that have to stand twice do
@@ -26,37 +27,24 @@ filled_doubled : (c : Cipher) (s : List ℕ) → is_filled c s ≡ true → doub
 unfolding is_filled
 filled_doubled c s f = and_right (same s (filled c (origin c s))) (doubled c (origin c s)) f
 
-module _ (string : List ℕ) (r : Origin) where
-  pub origin_refused : (n : ℕ) → (n ≡ 0 → ⊥) → string_check string ≡ refused n → r ≡ record { refusal = n; cipher = Hc128; words = replicate 16 0 }
-      → OriginIs string r
-  origin_refused n h x e = record {
-    refused_is = λ _. x ∙ rw e;
-    found_is = λ z. absurd (h (sym (ap (λ (q : Origin). q.refusal) e) ∙ z));
-  }
+-- what a string holds whose conditions up to 11 hold, by the sixteen words that its tables lead back to
+module _ (string : List ℕ) (c : Cipher) (position : ℕ) (rest : List ℕ) (x : load_found c position rest ≡ string_check string) where
+  pub origin_none : None ≡ found_at c (words rest) position → string_check string ≡ refused 12
+  origin_none e = sym x ∙ rw (none_at c (words rest) position (none_filled c _ (sym e)))
 
-  module _ (c : Cipher) (position : ℕ) (rest : List ℕ) (x : string_check string ≡ load_found c position rest) where
-    pub origin_none : is_filled c (filled_at c (words rest) position) ≡ false
-        → r ≡ record { refusal = 12; cipher = Hc128; words = replicate 16 0 } → OriginIs string r
-    origin_none f e = origin_refused 12 (λ z. omega arith) (x ∙ rw (none_at c (words rest) position f)) e
-
-    pub origin_found : (w : List ℕ) → is_filled c (filled_at c (words rest) position) ≡ true → w ≡ origin c (filled_at c (words rest) position)
-        → r ≡ record { refusal = 0; cipher = c; words = w } → OriginIs string r
-    origin_found w f w-is e =
-        let o = origin c (filled_at c (words rest) position) in
-        rw e
-        (record {
-          refused_is = λ h. absurd (h refl);
-          found_is = λ z. (
-            record { cipher = c; key = key_of c o; iv = iv_of c o; position = position; area = words rest },
-            x ∙ rw (found_at c (words rest) position f),
-            record {
-              cipher_is_lem = refl;
-              key_is = ap (key_of c) (sym w-is);
-              iv_is = ap (iv_of c) (sym w-is);
-              doubled_is = rw w-is (filled_doubled c _ f);
-            },
-          );
-        })
+  pub origin_found : (w : List ℕ) → Some w ≡ found_at c (words rest) position → OriginIs string (Ok (record { cipher = c; words = w }))
+  origin_found w e =
+      let (f, w-is) = some_filled c _ w (sym e) in
+      let o = origin c (filled_at c (words rest) position) in (
+        record { cipher = c; key = key_of c o; iv = iv_of c o; position = position; area = words rest },
+        sym x ∙ rw (key_at c (words rest) position f),
+        record {
+          cipher_is_lem = refl;
+          key_is = ap (key_of c) (sym w-is);
+          iv_is = ap (iv_of c) (sym w-is);
+          doubled_is = rw w-is (filled_doubled c _ f);
+        },
+      )
 
 -- sixteen words of which those stand twice that have to are the same as others exactly where key and IV are
 module _ (c : Cipher) (v w : List ℕ) (v-long : length v ≡ 16) (w-long : length w ≡ 16) (v-ok : AllWords v) (w-ok : AllWords w)
@@ -70,5 +58,5 @@ module _ (c : Cipher) (v w : List ℕ) (v-long : length v ≡ 16) (w-long : leng
   there : v ≡ w → same (key_of c v) (key_of c w) && same (iv_of c v) (iv_of c w) ≡ true
   there e = rw (equal_same (key_of c v) (key_of c w) (ap (key_of c) e)) (equal_same (iv_of c v) (iv_of c w) (ap (iv_of c) e))
 
-  pub words_same : same v w ≡ same (key_of c v) (key_of c w) && same (iv_of c v) (iv_of c w)
-  words_same = true_alike _ _ (λ e. there (same_equal v w e)) (λ e. equal_same v w (back e))
+  pub words_same : pointwise eqb v w ≡ same (key_of c v) (key_of c w) && same (iv_of c v) (iv_of c w)
+  words_same = true_alike _ _ (λ e. there ((bytes_decides v w).0 e)) (λ e. (bytes_decides v w).1 (back e))

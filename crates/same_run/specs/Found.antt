@@ -1,6 +1,9 @@
 -- What a checkpoint's string leads back to, as the code hands it on. Only contracts below the call cite it.
-use Rattle.std.specs.Prelude.{◌≡◌, true, List, ℕ}
+use Rattle.std.specs.Prelude.{◌≡◌, true, List, ℕ, Ok, Err}
+use Rattle.std.specs.Prelude as Std
 use Rattle.laws.specs.Result.{refused, accepted}
+use Rattle.refusal.specs.declared.Refusal.{Refusal}
+use Rattle.refusal.specs.Numbers.{number_of}
 use Rattle.keys.specs.Key.{doubled, key_of, iv_of}
 use Rattle.conditions.specs.Conditions.{Contents, string_check}
 use Rattle.same_run.specs.declared.Origin.{Origin}
@@ -13,6 +16,6 @@ pub record OriginOf (r : Origin) (l : Contents) : Type 0 where
   pub doubled_is : doubled r.cipher r.words ≡ true
 
 -- load's refusal of the string, or its cipher with the sixteen words of its key and IV
-pub record OriginIs (string : List ℕ) (r : Origin) : Type 0 where
-  pub refused_is : (r.refusal ≡ 0 → ⊥) → string_check string ≡ refused r.refusal
-  pub found_is : r.refusal ≡ 0 → (l : Contents) × (string_check string ≡ accepted l) × OriginOf r l
+abbrev pub OriginIs : (string : List ℕ) → Std.Result Origin Refusal → Type 0
+OriginIs string (Ok r) = (l : Contents) × (string_check string ≡ accepted l) × OriginOf r l
+OriginIs string (Err r) = string_check string ≡ refused (number_of r)

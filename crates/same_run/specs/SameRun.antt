@@ -5,7 +5,6 @@ use Rattle.laws.specs.Same.{same}
 use Rattle.laws.specs.Result.{Result, accepted, Outcome, outcome, ◌>>=◌, ◌>>◌, refuse◌unless◌}
 use Rattle.cipher.specs.Numbers.{code_of}
 use Rattle.conditions.specs.Conditions.{Contents, string_check}
-use Rattle.same_run.specs.declared.YesOrNo.{YesOrNo}
 use Rattle.same_run.specs.declared.YesOrNoAnswer.{YesOrNoAnswer}
 
 -- whether two checkpoints 'have the same key and IV'
@@ -23,10 +22,6 @@ same_run first second = do
 -- a refused pair is answered with no beside the number
 unfoldable pub same_run_call : (first second : List ℕ) → Outcome Bool
 same_run_call first second = outcome false (same_run first second)
-
--- how the code's answer makes the outcome
-abbrev pub told : YesOrNo → Outcome Bool
-told answer = record { refusal = answer.refusal; value = answer.yes }
 
 -- ── for C ──
 

@@ -2,117 +2,63 @@
 // and then the words are compared.
 #![tactic(auto)]
 
-ghost use Rattle.std.specs.Prelude.{◌≡◌, false, replicate};
-ghost use Rattle.laws.specs.Same.{same};
+ghost use Rattle.std.specs.Prelude.{◌≡◌, false};
+ghost use Rattle.laws.specs.Result.{outcome};
+ghost use Rattle.refusal.specs.Told.{told};
 ghost use Rattle.same_run.specs.SameRun as SameRun;
 ghost use Rattle.same_run.specs.Found as Found;
 
 use cipher::Cipher;
+use refusal::Refusal;
 
-// The answer: the refusal number, 0 where the pair is accepted, and then yes or no; beside a refusal it is no.
-#[derive(Clone, Copy)]
-pub struct YesOrNo {
-    pub refusal: u64,
-    pub yes: bool,
-}
-
-// The answer for C: yes is 1, no is 0. The order needs no padding.
+// The answer for C: the refusal number, 0 where the pair is accepted, and then 1 for yes and 0 for no; beside a refusal 0. The order needs no padding.
 #[repr(C)]
-#[derive(Clone, Copy)]
+#[derive(Clone, Copy, Debug, PartialEq, Eq)]
 pub struct YesOrNoAnswer {
     pub refusal: u64,
     pub yes: u64,
 }
 
-fn refused(refusal: u64) -> YesOrNo
-    ensures { result ≡ record { refusal = refusal; yes = false } }
-{
-    YesOrNo {
-        refusal: refusal,
-        yes: false,
+impl From<Result<bool, Refusal>> for YesOrNoAnswer {
+    ghost from_gives = { λ answer given. given ≡ SameRun.for_c (outcome false (told answer)) };
+
+    fn from(answer: Result<bool, Refusal>) -> YesOrNoAnswer {
+        YesOrNoAnswer {
+            refusal: refusal::number_of(answer),
+            yes: answer.unwrap_or(false).into(),
+        }
     }
 }
 
-// What a checkpoint leads back to: its cipher and the sixteen words of its key and IV, with refusal 0; or the number with which load refuses it.
+// What a checkpoint leads back to: its cipher and the sixteen words of its key and IV.
 #[derive(Clone, Copy)]
 struct Origin {
-    refusal: u64,
     cipher: Cipher,
     words: [u32; 16],
 }
 
-fn no_origin(refusal: u64) -> Origin
-    ensures { result ≡ record { refusal = refusal; cipher = Cipher.Hc128; words = replicate 16 0 } }
-{
-    Origin {
-        refusal: refusal,
-        cipher: Cipher::Hc128,
-        words: [0u32; 16],
-    }
-}
-
-// The sixteen words that a checkpoint leads back to, or load's refusal of it.
-fn origin_of(string: &[u8]) -> Origin
+// What a checkpoint leads back to, or load's refusal of it.
+#[tactic(auto, using(crate::proofs::Origins::origin_none, crate::proofs::Origins::origin_found))]
+fn origin_of(string: &[u8]) -> Result<Origin, Refusal>
     ensures { Found.OriginIs string.now result }
 {
-    let beginning = conditions::string_check(string);
-    let refusal = beginning.refusal;
-    if refusal != 0 {
-        return no_origin(refusal);
-    }
-    let c = beginning.cipher;
-    let position = beginning.position;
-    let next = beginning.next;
-    let found = recovery::of_string(c, position as usize, string, next);
-    let filled = found.filled;
-    if !filled {
-        return no_origin(12);
-    }
-    let words = found.words;
-    Origin {
-        refusal: 0,
-        cipher: c,
-        words: words,
-    }
-}
-
-// Whether two times sixteen words are the same.
-fn same_words(a: [u32; 16], b: [u32; 16]) -> bool
-    ensures { result ≡ same a b }
-{
-    let mut k = 0;
-    while k < 16 {
-        if a[k] != b[k] {
-            return false;
-        }
-        k += 1;
-    }
-    true
+    let beginning = conditions::string_check(string)?;
+    let cipher = beginning.cipher;
+    let position = beginning.position as usize;
+    let found = recovery::of_string(cipher, position, string, beginning.next);
+    let words = found.ok_or(Refusal::NoKey)?;
+    Ok(Origin { cipher, words })
 }
 
 // Whether two checkpoints are of one run.
-pub fn same_run(first: &[u8], second: &[u8]) -> YesOrNo
-    ensures { SameRun.told result ≡ SameRun.same_run_call first.now second.now }
+#[tactic(auto, unfolding(crate::specs::SameRun::same_run))]
+pub fn same_run(first: &[u8], second: &[u8]) -> Result<bool, Refusal>
+    ensures { told result ≡ SameRun.same_run first.now second.now }
 {
-    let a = origin_of(first);
-    let refusal = a.refusal;
-    if refusal != 0 {
-        return refused(refusal);
+    let a = origin_of(first)?;
+    let b = origin_of(second)?;
+    if a.cipher != b.cipher {
+        return Err(Refusal::TwoCiphers);
     }
-    let b = origin_of(second);
-    let other = b.refusal;
-    if other != 0 {
-        return refused(other);
-    }
-    let c = a.cipher;
-    let d = b.cipher;
-    if c.code() != d.code() {
-        return refused(23);
-    }
-    let v = a.words;
-    let w = b.words;
-    YesOrNo {
-        refusal: 0,
-        yes: same_words(v, w),
-    }
+    Ok(a.words == b.words)
 }

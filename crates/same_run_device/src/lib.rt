@@ -7,19 +7,10 @@ ghost use Rattle.same_run.specs.SameRun as SameRun;
 use same_run::YesOrNoAnswer;
 
 // Same run: whether two checkpoints have the same key and IV.
+#[tactic(auto, unfolding(same_run::specs::SameRun::same_run_call))]
 #[unsafe(no_mangle)]
 pub extern "C" fn hc_same_run(first: &[u8], second: &[u8]) -> YesOrNoAnswer
     ensures { result ≡ SameRun.for_c (SameRun.same_run_call first.now second.now) }
 {
-    let answer = same_run::same_run(first, second);
-    if answer.yes {
-        return YesOrNoAnswer {
-            refusal: answer.refusal,
-            yes: 1,
-        };
-    }
-    YesOrNoAnswer {
-        refusal: answer.refusal,
-        yes: 0,
-    }
+    same_run::same_run(first, second).into()
 }
