@@ -63,10 +63,10 @@ pub const PRODUCT: Range = Range {
 
 impl Range {
     // Whether a number is in the range.
-    pub fn contains(self, n: u32) -> bool
+    pub fn contains(self, n: u64) -> bool
         ensures { result ≡ Volume.in_range self n }
     {
-        self.least <= n && n <= self.most
+        u64::from(self.least) <= n && n <= u64::from(self.most)
     }
 }
 

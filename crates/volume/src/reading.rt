@@ -21,12 +21,11 @@ pub fn read_value(string: &[u8], at: usize, range: Range) -> Result<Found<u32>, 
         Err(NoNumber::Ended) => return Err(Refusal::VolumeEnds),
         Err(NoNumber::Malformed) => return Err(Refusal::VolumeNumber),
     };
-    let value = read.value as u32;
-    if !range.contains(value) {
+    if !range.contains(read.value) {
         return Err(Refusal::VolumeRange);
     }
     Ok(Found {
-        value: value,
+        value: read.value as u32,
         next: read.next,
     })
 }

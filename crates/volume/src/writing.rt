@@ -25,10 +25,10 @@ fn entry_at(list: &[u32], k: usize) -> Entry
 fn in_range(entry: Entry) -> bool
     ensures { result ≡ Volume.entry_in_range entry }
 {
-    MINUTES.contains(entry.minutes)
-        && LITRES.contains(entry.litres)
-        && RATIO.contains(entry.ratio)
-        && PRODUCT.contains(entry.product)
+    MINUTES.contains(entry.minutes.into())
+        && LITRES.contains(entry.litres.into())
+        && RATIO.contains(entry.ratio.into())
+        && PRODUCT.contains(entry.product.into())
 }
 
 // How many bytes an entry takes.

@@ -12,8 +12,8 @@ pub returns-in-Err-Malformed-clause-value : goal.returns-in-Err-Malformed-clause
 unfolding read_value
 returns-in-Err-Malformed-clause-value c = rw (sym c.in-Err-Malformed.ensures.0, c.in-Err-Malformed.field-0-is)
 
-pub overflow_cast-value : goal.overflow_cast-value
-overflow_cast-value c =
+pub overflow_cast-result : goal.overflow_cast-result
+overflow_cast-result c =
     omega (arith, number_fits c.args.string.now c.args.at c.in-Ok.read (λ i. let b = c.type_inv.string i in omega arith) c.in-Ok.ensures.0)
 
 pub returns-then-not-contains-clause-value : goal.returns-then-not-contains-clause-value

@@ -11,6 +11,10 @@ returns-then-contains-3 c =
       | then-contains-2 v ↦ elim c.if-contains.branch [
         | then-contains w ↦
             rw (
+              sym c.into.ensures,
+              sym w.into-then-contains.ensures,
+              sym v.into-then-contains-2.ensures,
+              sym c.into-then-contains-3.ensures,
               sym c.contains.ensures ∙ w.if-contains.true,
               sym w.contains-then-contains.ensures ∙ sym w.value-is ∙ v.if-contains-2.true,
               sym v.contains-then-contains-2.ensures ∙ sym v.value-is ∙ c.if-contains-3.true,
@@ -27,6 +31,9 @@ returns-else-contains-3 c =
       | then-contains-2 v ↦ elim c.if-contains.branch [
         | then-contains w ↦
             rw (
+              sym c.into.ensures,
+              sym w.into-then-contains.ensures,
+              sym v.into-then-contains-2.ensures,
               sym c.contains.ensures ∙ w.if-contains.true,
               sym w.contains-then-contains.ensures ∙ sym w.value-is ∙ v.if-contains-2.true,
               sym v.contains-then-contains-2.ensures ∙ sym v.value-is ∙ c.if-contains-3.false,
@@ -36,9 +43,11 @@ returns-else-contains-3 c =
       | else-contains-2 v ↦ elim c.if-contains.branch [
         | then-contains w ↦
             rw (
+              sym c.into.ensures,
+              sym w.into-then-contains.ensures,
               sym c.contains.ensures ∙ w.if-contains.true,
               sym w.contains-then-contains.ensures ∙ sym w.value-is ∙ v.if-contains-2.false,
             ) c.if-contains-3.false
-        | else-contains w ↦ rw (sym c.contains.ensures ∙ w.if-contains.false) c.if-contains-3.false
+        | else-contains w ↦ rw (sym c.into.ensures, sym c.contains.ensures ∙ w.if-contains.false) c.if-contains-3.false
       ]
     ]
