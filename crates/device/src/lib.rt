@@ -21,9 +21,9 @@ pub extern "C" fn hc_set_up(
     ensures { Answers.done result head.new area.new
         ≡ Calls.set_up_call head.old code key.now iv.now area.old }
 {
-    let done = Head::set_up(*head, code, key, iv, area);
-    *head = done.head;
-    done.refusal
+    let next = head.set_up(code, key, iv, area);
+    *head = next.head;
+    refusal::number_of(next.answer)
 }
 
 // Cipher: each lent byte becomes its exclusive or with the keystream byte, and the position advances by their number. With one byte or more the mark
@@ -33,9 +33,9 @@ pub extern "C" fn hc_cipher(head: &mut Head, area: &mut [u32], bytes: &mut [u8])
     ensures { Answers.ciphered result head.new area.new bytes.new
         ≡ Calls.cipher_call head.old area.old bytes.old }
 {
-    let ciphered = Head::cipher(*head, area, bytes);
-    *head = ciphered.head;
-    ciphered.refusal
+    let next = head.cipher(area, bytes);
+    *head = next.head;
+    refusal::number_of(next.answer)
 }
 
 // Move: by a signed distance in bytes; the mark stays.
@@ -44,9 +44,9 @@ pub extern "C" fn hc_move(head: &mut Head, area: &mut [u32], distance: i64) -> u
     ensures { Answers.done result head.new area.new
         ≡ Calls.move_call head.old area.old distance }
 {
-    let moved = Head::move_by(*head, area, distance);
-    *head = moved.head;
-    moved.refusal
+    let next = head.move_by(area, distance);
+    *head = next.head;
+    refusal::number_of(next.answer)
 }
 
 // Checkpoint length: how many bytes the checkpoint of a cipher has at a position.
@@ -54,7 +54,7 @@ pub extern "C" fn hc_move(head: &mut Head, area: &mut [u32], distance: i64) -> u
 pub extern "C" fn hc_checkpoint_length(code: u32, position: u64) -> LengthAnswer
     ensures { Answers.told result ≡ Calls.checkpoint_length_call code position }
 {
-    engine::checkpoint_length(code, position)
+    engine::checkpoint_length(code, position).into()
 }
 
 // Write: the checkpoint is put at the start of the lent bytes; later bytes stay.
@@ -63,9 +63,9 @@ pub extern "C" fn hc_write(head: &mut Head, area: &[u32], lent: &mut [u8]) -> Le
     ensures { Answers.written result head.new area.now lent.new
         ≡ Calls.write_call head.old area.now lent.old }
 {
-    let written = Head::write(*head, area, lent);
-    *head = written.head;
-    written.answer
+    let next = head.write(area, lent);
+    *head = next.head;
+    next.answer.into()
 }
 
 // Recover: the two buffers are filled with the key and the IV; the tables stay.
@@ -74,9 +74,9 @@ pub extern "C" fn hc_recover(head: &mut Head, area: &[u32], key: &mut [u8], iv: 
     ensures { Answers.recovered result head.new area.now key.new iv.new
         ≡ Calls.recover_call head.old area.now key.old iv.old }
 {
-    let recovered = Head::recover(*head, area, key, iv);
-    *head = recovered.head;
-    recovered.refusal
+    let next = head.recover(area, key, iv);
+    *head = next.head;
+    refusal::number_of(next.answer)
 }
 
 // Load: area and head are filled from a checkpoint, and the mark becomes the loaded position.
@@ -85,9 +85,9 @@ pub extern "C" fn hc_load(head: &mut Head, area: &mut [u32], string: &[u8]) -> L
     ensures { Answers.loaded result head.new area.new
         ≡ Calls.load_call head.old string.now area.old }
 {
-    let loaded = Head::load(*head, area, string);
-    *head = loaded.head;
-    loaded.answer
+    let next = head.load(area, string);
+    *head = next.head;
+    next.answer.into()
 }
 
 // Spent: the mark, which is the farthest byte that a cipher call reached since the last set up or load.
@@ -95,7 +95,7 @@ pub extern "C" fn hc_load(head: &mut Head, area: &mut [u32], string: &[u8]) -> L
 pub extern "C" fn hc_spent(head: &mut Head) -> SpentAnswer
     ensures { Answers.counted result head.new ≡ Calls.spent_call head.old }
 {
-    let counted = Head::spent(*head);
-    *head = counted.head;
-    counted.answer
+    let next = head.spent();
+    *head = next.head;
+    next.answer.into()
 }
