@@ -1,53 +1,36 @@
 -- `volume::writing::in_range` meets its contract: each number is tested in its turn.
-use Rattle.std.proofs.Common.{sym, ◌∙◌}
+use Rattle.std.proofs.Common.{arith}
+use borrow.Author.Tests.{le-leb}
 use Rattle.volume.specs.Volume.{entry_in_range}
+use Rattle.volume.proofs.Values.{range_holds, range_below, range_above}
 use Rattle.volume.proofs.writing.in_range.Goals as goal
-use Rattle.volume.proofs.writing.in_range.Goals.{then-contains, else-contains, then-contains-2, else-contains-2}
 
-pub returns-then-contains-3 : goal.returns-then-contains-3
+pub returns-then-entry-gt-MOST_MINUTES : goal.returns-then-entry-gt-MOST_MINUTES
 unfolding entry_in_range
-returns-then-contains-3 c =
-    elim c.if-contains-2.branch [
-      | then-contains-2 v ↦ elim c.if-contains.branch [
-        | then-contains w ↦
-            rw (
-              sym c.into.ensures,
-              sym w.into-then-contains.ensures,
-              sym v.into-then-contains-2.ensures,
-              sym c.into-then-contains-3.ensures,
-              sym c.contains.ensures ∙ w.if-contains.true,
-              sym w.contains-then-contains.ensures ∙ sym w.value-is ∙ v.if-contains-2.true,
-              sym v.contains-then-contains-2.ensures ∙ sym v.value-is ∙ c.if-contains-3.true,
-            ) c.contains-then-contains-3.ensures
-        | else-contains w ↦ cc
-      ]
-      | else-contains-2 v ↦ cc
-    ]
+returns-then-entry-gt-MOST_MINUTES c =
+    let e = c.args.entry in
+    rw (range_above 0 1440 e.minutes (omega arith) (omega arith))
 
-pub returns-else-contains-3 : goal.returns-else-contains-3
+pub returns-then-entry-gt-MOST_LITRES : goal.returns-then-entry-gt-MOST_LITRES
 unfolding entry_in_range
-returns-else-contains-3 c =
-    elim c.if-contains-2.branch [
-      | then-contains-2 v ↦ elim c.if-contains.branch [
-        | then-contains w ↦
-            rw (
-              sym c.into.ensures,
-              sym w.into-then-contains.ensures,
-              sym v.into-then-contains-2.ensures,
-              sym c.contains.ensures ∙ w.if-contains.true,
-              sym w.contains-then-contains.ensures ∙ sym w.value-is ∙ v.if-contains-2.true,
-              sym v.contains-then-contains-2.ensures ∙ sym v.value-is ∙ c.if-contains-3.false,
-            ) c.if-contains-3.false
-        | else-contains w ↦ cc
-      ]
-      | else-contains-2 v ↦ elim c.if-contains.branch [
-        | then-contains w ↦
-            rw (
-              sym c.into.ensures,
-              sym w.into-then-contains.ensures,
-              sym c.contains.ensures ∙ w.if-contains.true,
-              sym w.contains-then-contains.ensures ∙ sym w.value-is ∙ v.if-contains-2.false,
-            ) c.if-contains-3.false
-        | else-contains w ↦ rw (sym c.into.ensures, sym c.contains.ensures ∙ w.if-contains.false) c.if-contains-3.false
-      ]
-    ]
+returns-then-entry-gt-MOST_LITRES c =
+    let e = c.args.entry in
+    rw (range_holds 0 1440 e.minutes (omega arith) (omega arith), range_above 0 100000 e.litres (omega arith) (omega arith))
+
+pub returns-then-entry-gt-MOST_RATIO : goal.returns-then-entry-gt-MOST_RATIO
+unfolding entry_in_range
+returns-then-entry-gt-MOST_RATIO c =
+    let e = c.args.entry in
+    rw (range_holds 0 1440 e.minutes (omega arith) (omega arith), range_holds 0 100000 e.litres (omega arith) (omega arith), range_above 0 10000 e.ratio (omega arith) (omega arith))
+
+pub returns-then-entry-lt-LEAST_PRODUCT : goal.returns-then-entry-lt-LEAST_PRODUCT
+unfolding entry_in_range
+returns-then-entry-lt-LEAST_PRODUCT c =
+    let e = c.args.entry in
+    rw (range_holds 0 1440 e.minutes (omega arith) (omega arith), range_holds 0 100000 e.litres (omega arith) (omega arith), range_holds 0 10000 e.ratio (omega arith) (omega arith), range_below 1 8 e.product (omega arith))
+
+pub returns : goal.returns
+unfolding entry_in_range
+returns c =
+    let e = c.args.entry in
+    rw (range_holds 0 1440 e.minutes (omega arith) (omega arith), range_holds 0 100000 e.litres (omega arith) (omega arith), range_holds 0 10000 e.ratio (omega arith) (omega arith), le-leb 1 e.product (omega arith))
