@@ -23,7 +23,7 @@ pub extern "C" fn hc_test_load(
     ensures { Answers.done result head.new area.new
         ≡ Loads.test_load_call head.old seed count code key.now iv.now area.old }
 {
-    let done = test_load::test_load(*head, seed, count, code, key, iv, area);
-    *head = done.head;
-    done.refusal
+    let next = test_load::test_load(*head, seed, count, code, key, iv, area);
+    *head = next.head;
+    refusal::number_of(next.answer)
 }

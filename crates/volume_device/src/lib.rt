@@ -17,7 +17,7 @@ pub extern "C" fn hc_write_volume(entries: &[u32], lent: &mut [u8]) -> LengthAns
     ensures { VolumeAnswers.volume_written result lent.new
         ≡ VolumeCalls.write_volume_call entries.now lent.old }
 {
-    volume::write_volume(entries, lent)
+    volume::write_volume(entries, lent).into()
 }
 
 // Read volume: the entries of a volume are put at the start of the lent list, four numbers each; later elements stay.
@@ -26,7 +26,7 @@ pub extern "C" fn hc_read_volume(string: &[u8], entries: &mut [u32]) -> CountAns
     ensures { VolumeAnswers.volume_read result entries.new
         ≡ VolumeCalls.read_volume_call string.now entries.old }
 {
-    volume::read_volume(string, entries)
+    volume::read_volume(string, entries).into()
 }
 
 // Encipher volume: the bytes, which are to be a volume and nothing after it, are enciphered as cipher does. The head is taken by mutable reference, a
@@ -36,7 +36,7 @@ pub extern "C" fn hc_encipher_volume(head: &mut Head, area: &mut [u32], bytes: &
     ensures { Answers.ciphered result head.new area.new bytes.new
         ≡ Calls.encipher_volume_call head.old area.old bytes.old }
 {
-    let enciphered = Head::encipher_volume(*head, area, bytes);
-    *head = enciphered.head;
-    enciphered.refusal
+    let next = head.encipher_volume(area, bytes);
+    *head = next.head;
+    refusal::number_of(next.answer)
 }
