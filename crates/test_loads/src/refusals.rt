@@ -1,91 +1,56 @@
-// Loads that are refused: each is to get its number, and to leave head and area as they were.
-use crate::lines;
+// Loads that are refused: each is to get its refusal, and to leave head and area as they were.
 use engine::Head;
-use std::io;
+use engine::answers::Next;
+use refusal::Refusal;
+use std::{fmt, io};
 
-// Whether each word is the one that the area was filled with.
-fn kept(words: &[u32]) -> bool {
-    let mut i = 0;
-    while i < words.len() {
-        if words[i] != 7 {
-            return false;
-        }
-        i += 1;
-    }
-    true
+// A load with a key, an IV and an area of these lengths.
+#[derive(Clone, Copy)]
+pub struct Load {
+    pub seed: u32,
+    pub count: u64,
+    pub code: u32,
+    pub key: usize,
+    pub iv: usize,
+    pub area: usize,
 }
 
-// Whether the load gets this number, and leaves a head that was made up.
-fn leaves_head(
-    seed: u32,
-    count: u64,
-    code: u32,
-    key: &[u8],
-    iv: &[u8],
-    area: &mut [u32],
-    refusal: u64,
-) -> bool {
-    let before = Head::at(2, 5, 8, 7);
-    let done = test_load::test_load(before, seed, count, code, key, iv, area);
-    let left = done.head;
-    let same = (left.code == 2) & (left.position == 5) & (left.word == 8) & (left.mark == 7);
-    same & (done.refusal == refusal)
+impl fmt::Display for Load {
+    fn fmt<W: fmt::Write>(&self, f: &mut fmt::Formatter<W>) -> fmt::Result {
+        write!(
+            f,
+            "seed {} count {} code {}",
+            self.seed, self.count, self.code
+        )?;
+        write!(f, " key {} IV {} area {}", self.key, self.iv, self.area)
+    }
 }
 
-// Whether a load with the first bytes of a key and of an IV and the first of these words, so many of each, gets this number and leaves head and words.
-fn leaves_all(
-    seed: u32,
-    count: u64,
-    code: u32,
-    key: &[u8],
-    m: usize,
-    iv: &[u8],
-    l: usize,
-    words: &mut [u32],
-    n: usize,
-    refusal: u64,
-) -> bool {
-    if key.len() < m {
-        return false;
+impl Load {
+    // Whether a head that was made up gets a refusal, and head and area stay.
+    fn is_refused(self, rt: &impl AllocGlobal, refusal: Refusal) -> io::Result<bool> {
+        let key = vec![in rt.alloc(); 5u8; self.key]?;
+        let iv = vec![in rt.alloc(); 6u8; self.iv]?;
+        let mut area = vec![in rt.alloc(); 7u32; self.area]?;
+        let head = Head::at(2, 5, 8, 7);
+        let next = test_load::test_load(
+            head, self.seed, self.count, self.code, &key, &iv, &mut area,
+        );
+        let refused = Next {
+            head,
+            answer: Err(refusal),
+        };
+        Ok(next == refused && area.iter().all(|word| *word == 7))
     }
-    if iv.len() < l {
-        return false;
-    }
-    if words.len() < n {
-        return false;
-    }
-    let left = leaves_head(
-        seed,
-        count,
-        code,
-        &key[0..m],
-        &iv[0..l],
-        &mut words[0..n],
-        refusal,
-    );
-    left & kept(words)
 }
 
-// A load with a key of m bytes, an IV of l bytes and an area of n words.
-pub fn refuses(
-    rt: &impl Print,
-    seed: u32,
-    count: u64,
-    code: u32,
-    m: usize,
-    l: usize,
-    n: usize,
-    refusal: u64,
-) -> io::Result<()> {
-    let key = [5u8; 33];
-    let iv = [6u8; 33];
-    let mut words = [7u32; 2049];
-    let ok = leaves_all(seed, count, code, &key, m, &iv, l, &mut words, n, refusal);
-    lines::load(rt, seed, count)?;
-    lines::number(rt, " code ", code as u64)?;
-    lines::number(rt, " key ", m as u64)?;
-    lines::number(rt, " IV ", l as u64)?;
-    lines::number(rt, " area ", n as u64)?;
-    lines::number(rt, ": refused ", refusal)?;
-    lines::end(rt, ok)
+// The line of a load that is to get this refusal.
+pub fn refuses(rt: &(impl Print + AllocGlobal), load: Load, refusal: Refusal) -> io::Result<()> {
+    let number = u64::from(refusal);
+    let word = if load.is_refused(rt, refusal)? {
+        "ok"
+    } else {
+        "wrong"
+    };
+    println!(rt; "{load}: refused {number} {word}")
 }
