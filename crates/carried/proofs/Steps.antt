@@ -17,11 +17,11 @@ use Rattle.tables.specs.Area.{changes_p, start_a, indices_at, places, Within}
 use Rattle.tables.proofs.Masks.{indices_within}
 use Rattle.tables.specs.Step.{step, output}
 use Rattle.tables.proofs.Words.{feedback_read, filter_read, stepped}
-use Rattle.carried.specs.Carried.{carry, carried, five_of}
-use Rattle.carried.specs.Runs.{carry_unwrapped, NoneWraps, before_wrap}
+use Rattle.carried.specs.Carried.{carried, five_of}
+use Rattle.carried.specs.Runs.{NoneWraps, before_wrap}
 use Rattle.carried.specs.Steps.{step_with, output_with, call_step, call_output}
 use Rattle.carried.specs.Runs.{run_step, run_output}
-use Rattle.carried.proofs.Five.{carry_is, carried_is, five_is, unwrapped_is}
+use Rattle.carried.proofs.Five.{carried_is, five_is}
 
 -- ---- with the five of a step number
 
@@ -102,15 +102,3 @@ five_within c i k e = rw (e ∙ five_is c i k) (indices_within c (i + k))
 
 pub five_index : (c : Cipher) (i k : ℕ) {x : Indices} → x ≡ five_of (table_length c) i k → x.j ≡ (i + k) % table_length c
 five_index c i k e = ap (λ (y : Indices). y.j) (e ∙ five_is c i k)
-
--- one step on, where none wraps
-pub five_unwrapped : (c : Cipher) (i k : ℕ) {x y : Indices} → x ≡ five_of (table_length c) i k → NoneWraps (table_length c) x 1 → y ≡ carry_unwrapped x
-    → y ≡ five_of (table_length c) i (k + 1)
-five_unwrapped c i k {x} e v f =
-    let a : i + k + 1 ≡ i + (k + 1) = omega arith in
-    f
-    ∙ unwrapped_is (table_length c) x 0 v
-    ∙ ap (carry (table_length c)) (e ∙ five_is c i k)
-    ∙ carry_is c (i + k)
-    ∙ ap (indices_at (table_length c)) a
-    ∙ sym (five_is c i (k + 1))

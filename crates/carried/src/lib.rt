@@ -1,4 +1,5 @@
-// The five indices of a step carried from step to step, and a step taken with them.
+// The five indices of a step carried from step to step, and a step taken with them. What carries them stands here and not among the methods of
+// `Indices`, since the definition of carrying is this crate's. Cipher and p go apart, so that a loop's copy for a case has both as constants.
 #![tactic(auto)]
 
 ghost use Rattle.std.specs.Prelude.{◌≡◌, ◌+◌, ◌%◌, ◌^◌, ◌<◌, length};

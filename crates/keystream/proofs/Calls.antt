@@ -18,7 +18,7 @@ use Rattle.carried.specs.Steps.{step_with, output_with, call_step, call_output}
 use Rattle.carried.specs.Runs.{Taken, run_step, run_output}
 use Rattle.carried.proofs.Steps.{run_step_lem, run_output_lem, five_later}
 use Rattle.keystream.specs.Stores.{xor_part, Worded}
-use Rattle.keystream.proofs.Words.{Words, words_start, words_turn, words_turn_by, words_end, worded_same}
+use Rattle.keystream.proofs.Words.{Words, words_start, words_turn, words_turn_by, worded_same}
 
 module _ (c : Cipher) (i : ℕ) (s₀ bs₀ : List ℕ) (start n w₀ : ℕ) where
   abbrev pub Call : List ℕ → List ℕ → Indices → ℕ → ℕ → Type 0
@@ -62,10 +62,3 @@ module _ (c : Cipher) (i : ℕ) (s₀ bs₀ : List ℕ) (start n w₀ : ℕ) whe
   call_next {k = k} call h =
       let T = table_length c in
       h ∙ ap (λ (y : Indices). next_five T y (i + k)) call.1 ∙ sym (forward_more (next_five T) (indices_at T i) i k)
-
-  -- all n are done
-  pub call_end : {s bs : List ℕ} {x : Indices} {w k : ℕ} → Call s bs x w k → n ≤ k
-      → Worded (call_step c i) (call_output c i) s₀ bs₀ 0 start n w₀ s bs w × (x ≡ five_of (table_length c) i n)
-  call_end {k = k} call l =
-      let e : k ≡ n = omega (arith, call.0.0.within) in
-      (words_end _ _ _ _ _ _ _ _ call.0 l, call.1 ∙ ap (five_of (table_length c) i) e)

@@ -17,7 +17,7 @@ use Rattle.carried.specs.Steps.{step_with, output_with}
 use Rattle.carried.specs.Runs.{Taken, run_step, run_output}
 use Rattle.carried.proofs.Five.{none_wraps_later, none_wraps_fewer, carried_add}
 use Rattle.steps.specs.Steps.{steps_at}
-use Rattle.keystream.specs.Stores.{xor_part, Worded, Begun}
+use Rattle.keystream.specs.Stores.{xor_part, Begun}
 use Rattle.keystream.proofs.Words.{Words, words_start, words_turn_by, words_end, worded_same, last_none, last_more}
 
 module _ (c : Cipher) (p : Bool) (at : Indices) (s₀ bs₀ : List ℕ) (start n w₀ : ℕ) where
@@ -46,13 +46,6 @@ module _ (c : Cipher) (p : Bool) (at : Indices) (s₀ bs₀ : List ℕ) (start n
   pub run_wraps_none : {s bs : List ℕ} {x : Indices} {w m : ℕ} (r : ℕ) → Run s bs x w m → NoneWraps (table_length c) at n → m + r ≤ n → NoneWraps (table_length c) x r
   run_wraps_none {m = m} r run v l =
       rw run.1 (none_wraps_fewer (table_length c) _ (n - m) r (none_wraps_later (table_length c) at n m v (omega arith)) (omega arith))
-
-  -- all n are done
-  pub run_end : {s bs : List ℕ} {x : Indices} {w m : ℕ} → Run s bs x w m → n ≤ m
-      → Worded (run_step c p at) (run_output c p at) s₀ bs₀ 0 start n w₀ s bs w × (x ≡ carried (table_length c) at n)
-  run_end {m = m} run l =
-      let e : m ≡ n = omega (arith, run.0.0.within) in
-      (words_end _ _ _ _ _ _ _ _ run.0 l, run.1 ∙ ap (carried (table_length c) at) e)
 
 -- a step with the five carried k times
 module _ (c : Cipher) (p : Bool) (at : Indices) (k : ℕ) (s : List ℕ) {x : Indices} (e : x ≡ carried (table_length c) at k) where

@@ -2,7 +2,7 @@
 use mathlib.Core.Path.{◌≡◌, refl, sym, ap, ◌∙◌}
 use mathlib.Core.Logic.{⊎_elim}
 use mathlib.Core.List.{List}
-use Prim.Native.Nat.{ℕ, suc, ◌+◌, ◌-◌, ◌*◌, ◌/◌, ◌%◌, ◌≤◌, ◌<◌, min}
+use Prim.Native.Nat.{ℕ, suc, ◌+◌, ◌-◌, ◌*◌, ◌/◌, ◌%◌, ◌≤◌, ◌<◌}
 use native.Mathlib.Nat.{zero-add}
 use native.Mathlib.Omega.{arith}
 use lib.ListN.{length}
@@ -26,9 +26,6 @@ use Rattle.keystream.proofs.Ciphered.{key_from, key_from_lem, all_done}
 module _ (p l : ℕ) where
   pub none_in_word : p % 4 ≡ 0 → in_word p l ≡ 0
   none_in_word e = omega arith
-
-  pub some_in_word : (p % 4 ≡ 0 → ⊥) → min (4 - p % 4) l ≡ in_word p l
-  some_in_word h = omega arith
 
   in_word_le : in_word p l ≤ l
   in_word_le = omega arith

@@ -4,7 +4,7 @@ use mathlib.Core.Path.{◌≡◌, refl, sym, ap, ap₂, ◌∙◌}
 use mathlib.Core.Bool.{Bool, true, false}
 use mathlib.Core.List.{List}
 use mathlib.Core.Logic.{⊎_elim}
-use Prim.Native.Nat.{ℕ, ◌+◌, ◌-◌, ◌*◌, ◌/◌, ◌%◌, ◌≤◌, ◌<◌}
+use Prim.Native.Nat.{ℕ, ◌+◌, ◌-◌, ◌*◌, ◌/◌, ◌%◌, ◌<◌}
 use native.Mathlib.Nat.{mod-lt}
 use native.Mathlib.Omega.{arith}
 use borrow.Author.Tests.{lt-ltb, le-ltb, eq-eqb, ne_eqb}
@@ -20,7 +20,7 @@ use Rattle.functions.specs.ByCipher.{h_of}
 use Rattle.word.specs.Word.{◌⊕◌}
 use Rattle.tables.specs.Area.{changes_p, start_a, indices_at, Within}
 use Rattle.tables.specs.Step.{place, filter, output}
-use Rattle.tables.proofs.Places.{table_size, place_is, place_lt}
+use Rattle.tables.proofs.Places.{table_size, place_is}
 
 pub area_and : (c : Cipher) (i : ℕ) → bit_and i (area_length c - 1) ≡ i % area_length c
 area_and Hc128 i = and_mask i 10
@@ -29,11 +29,6 @@ area_and Hc256 i = and_mask i 11
 pub table_and : (c : Cipher) (i : ℕ) → bit_and i (table_length c - 1) ≡ i % table_length c
 table_and Hc128 i = and_mask i 9
 table_and Hc256 i = and_mask i 10
-
--- n below j modulo T
-back_and : (c : Cipher) (i n : ℕ) → n ≤ 12 → bit_and (i % table_length c + (1024 - n)) (table_length c - 1) ≡ (i % table_length c + (table_length c - n)) % table_length c
-back_and Hc128 i n l = and_mask (i % 512 + (1024 - n)) 9 ∙ omega arith
-back_and Hc256 i n l = and_mask (i % 1024 + (1024 - n)) 10 ∙ omega arith
 
 pub indices_within : (c : Cipher) (i : ℕ) → Within (table_length c) (indices_at (table_length c) i)
 indices_within c i =
@@ -78,10 +73,6 @@ pub start_b_lem : (T : ℕ) (p : Bool) → T - start_a T p ≡ start_b T p
 start_b_lem T true = omega arith
 start_b_lem T false = omega arith
 
-start_le : (T : ℕ) (p : Bool) → start_a T p ≤ T
-start_le T true = omega arith
-start_le T false = omega arith
-
 -- the places that the code reads in an area of n words, for step i
 module _ (c : Cipher) (n i : ℕ) where
   abbrev pub place_of : ℕ
@@ -94,16 +85,9 @@ module _ (c : Cipher) (n i : ℕ) where
   minus12_of = start_of + bit_and (place_of + 1012) (n / 2 - 1)
 
   pub record Again : Type 0 where
-    pub half : n / 2 ≡ table_length c
-    pub sized : (1 ≤ n) × (n ≤ 2048) × (1 ≤ n / 2) × (n ≡ n / 2 + n / 2)
     pub place_is : place_of ≡ place c i
-    pub place_lt : place_of < n
-    pub start_is : start_of ≡ start_a (table_length c) (changes_p (table_length c) i)
-    pub start_le : start_of ≤ n / 2
-    pub other_is : n / 2 - start_of ≡ start_b (table_length c) (changes_p (table_length c) i)
-    pub index_lt : bit_and (place_of + 1012) (n / 2 - 1) < n / 2
     pub minus12_is : minus12_of ≡ start_a (table_length c) (changes_p (table_length c) i) + (indices_at (table_length c) i).minus12
-    pub minus12_lt : minus12_of < n
+    pub other_is : n / 2 - start_of ≡ start_b (table_length c) (changes_p (table_length c) i)
 
 table_half : (c : Cipher) → area_length c / 2 ≡ table_length c
 table_half Hc128 = refl
@@ -113,26 +97,15 @@ pub again : (c : Cipher) (n i : ℕ) → n ≡ area_length c → Again c n i
 again c n i e =
     let T = table_length c in
     let p = changes_p T i in
-    let size = table_size c in
     let half : n / 2 ≡ T = ap (λ (x : ℕ). x / 2) e ∙ table_half c in
     let k : place_of c n i ≡ i % area_length c = ap (λ (x : ℕ). bit_and i (x - 1)) e ∙ area_and c i in
     let a : start_of c n i ≡ start_a T p = ap₂ bit_and k half ∙ start_and c i in
     let m : bit_and (place_of c n i + 1012) (n / 2 - 1) ≡ (i % T + (T - 12)) % T =
     ap₂ (λ (x t : ℕ). bit_and (x + 1012) (t - 1)) k half ∙ table_and c _ ∙ minus12_is c i in
-    let q : place_of c n i ≡ place c i = k ∙ sym (place_is c i) in
-    let lt = mod-lt (i % T + (T - 12)) {m = T} (omega arith) in
-    let s = start_le T p in
     record {
-      half = half;
-      sized = (omega arith, omega arith, omega arith, omega arith);
-      place_is = q;
-      place_lt = omega (arith, q, place_lt c i, e);
-      start_is = a;
-      start_le = omega (arith, a, s, half);
-      other_is = ap₂ (λ (x y : ℕ). x - y) half a ∙ start_b_lem T p;
-      index_lt = omega (arith, m, lt, half);
+      place_is = k ∙ sym (place_is c i);
       minus12_is = ap₂ (λ (x y : ℕ). x + y) a m;
-      minus12_lt = omega (arith, a, s, m, lt, half, e);
+      other_is = ap₂ (λ (x y : ℕ). x - y) half a ∙ start_b_lem T p;
     }
 
 -- what is read at them is the output of step i

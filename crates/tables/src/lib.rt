@@ -1,4 +1,5 @@
-// The table area of a cipher, 2T words, P then Q: a step, its inverse and its output word, by the number of the step.
+// The table area of a cipher, 2T words, P then Q: a step, its inverse and its output word, by the number of the step. That a lent area has the cipher's
+// length stands in each contract: a struct of both would need one type for `&` and one for `&mut`, and goes through memory where a call is not inlined.
 #![tactic(auto)]
 
 ghost use Rattle.std.specs.Prelude.{◌≡◌, ◌≤◌, ◌<◌, length};
@@ -125,7 +126,7 @@ pub fn step(cipher: Cipher, area: &mut [u32], i: usize)
     area[k] = with_feedback(cipher, false, area, i, area[k]);
 }
 
-// Step i undone.
+// Step i undone. A step and its inverse are told apart by a word; one function with a flag would be no plainer where it is called.
 #[tactic(auto, using(crate::proofs::Words::stepped_back))]
 pub fn step_back(cipher: Cipher, area: &mut [u32], i: usize)
     requires { length area.old ≡ area_length cipher }
