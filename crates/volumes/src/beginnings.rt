@@ -1,79 +1,70 @@
 // Whether a string is sound, cut or hopeless, and the same of each of its beginnings.
-use crate::table::{CUT, HOPELESS, SOUND};
-use soundness::Soundness;
+use crate::table::{each, no_numbers};
+use soundness::{Soundness, volume_soundness};
 use std::io;
 
-// Whether this is the answer for a string, and the length where it is hopeless.
-fn answer_is(string: &[u8], answer: u32, length: usize) -> bool {
-    let found = soundness::volume_soundness(string);
-    match found {
-        Soundness::Sound => answer == SOUND,
-        Soundness::Cut => answer == CUT,
-        Soundness::Hopeless { length: n } => (answer == HOPELESS) & (n == length),
+// The answer for a beginning of a string with this answer: from the hopeless length on it is hopeless at that length, and below it is cut, or sound
+// where it is a volume.
+fn answer_of(beginning: &[u8], whole: Soundness) -> Soundness {
+    match whole {
+        Soundness::Hopeless { length } if length <= beginning.len() => whole,
+        _ if volume::check_volume(beginning).is_ok() => Soundness::Sound,
+        _ => Soundness::Cut,
     }
 }
 
-// Whether a beginning of a string with this answer has the answer that follows from it: from the hopeless length on it is hopeless at that length,
-// and below it is cut, or sound where it is a volume.
-fn beginning_is(beginning: &[u8], answer: u32, length: usize) -> bool {
-    if (answer == HOPELESS) & (length <= beginning.len()) {
-        return answer_is(beginning, HOPELESS, length);
-    }
-    if volume::check_volume(beginning) == 0 {
-        return answer_is(beginning, SOUND, 0);
-    }
-    answer_is(beginning, CUT, 0)
-}
-
-// Whether each beginning of a string, from the empty one to the whole, has its answer.
-fn beginnings_are(string: &[u8], answer: u32, length: usize) -> bool {
-    let mut n = 0;
-    while n < string.len() {
-        if !beginning_is(&string[0..n], answer, length) {
+// Whether a string has this answer, and each of its beginnings the one that follows from it.
+fn is_right(string: &[u8], answer: Soundness) -> bool {
+    for n in 0..string.len() {
+        let beginning = &string[..n];
+        if volume_soundness(beginning) != answer_of(beginning, answer) {
             return false;
         }
-        n += 1;
     }
-    answer_is(string, answer, length)
+    volume_soundness(string) == answer
 }
 
-// The line of a case.
-fn line(rt: &impl Print, case: &[u8], answer: u32, length: usize, ok: bool) -> io::Result<()> {
-    print!(rt; "soundness ")?;
-    rt.write_all(case)?;
-    if answer == SOUND {
-        print!(rt; " sound")?;
-    } else if answer == CUT {
-        print!(rt; " cut")?;
+// Takes the soundness of a string, which is to have this answer, and of its beginnings.
+pub fn judges(rt: &impl Print, case: &str, string: &[u8], answer: Soundness) -> io::Result<()> {
+    let word = if is_right(string, answer) {
+        "ok"
     } else {
-        print!(rt; " hopeless at {length}")?;
+        "wrong"
+    };
+    match answer {
+        Soundness::Sound => println!(rt; "soundness {case}: sound {word}"),
+        Soundness::Cut => println!(rt; "soundness {case}: cut {word}"),
+        Soundness::Hopeless { length } => {
+            println!(rt; "soundness {case}: hopeless at {length} {word}")
+        }
     }
-    let word = if ok { "ok" } else { "wrong" };
-    println!(rt; " {word}")
 }
 
-// The first of these numbers, or 0 where there is none.
-fn first(numbers: &[u32]) -> u32 {
-    if numbers.len() < 1 {
-        return 0;
-    }
-    numbers[0]
-}
-
-// Takes the soundness of a string and of its beginnings. The number is the hopeless length.
-pub fn judges(
-    rt: &impl Print,
-    case: &[u8],
-    string: &[u8],
-    answer: u32,
-    numbers: &[u32],
-) -> io::Result<()> {
-    let length = first(numbers) as usize;
-    line(
+// Judges each string of a table of volumes.
+pub fn sound_each(rt: &(impl Print + AllocGlobal), table: &str) -> io::Result<()> {
+    each(
         rt,
-        case,
-        answer,
-        length,
-        beginnings_are(string, answer, length),
+        table,
+        |case, string, _| judges(rt, case, string, Soundness::Sound),
     )
+}
+
+// Judges each string of a table of strings that are cut.
+pub fn cut_each(rt: &(impl Print + AllocGlobal), table: &str) -> io::Result<()> {
+    each(
+        rt,
+        table,
+        |case, string, _| judges(rt, case, string, Soundness::Cut),
+    )
+}
+
+// Judges each string of a table of hopeless ones. Its number is the length at which it became so.
+pub fn hopeless_each(rt: &(impl Print + AllocGlobal), table: &str) -> io::Result<()> {
+    each(rt, table, |case, string, numbers| {
+        let [length] = numbers else {
+            return no_numbers(rt, case);
+        };
+        let length = *length as usize;
+        judges(rt, case, string, Soundness::Hopeless { length })
+    })
 }

@@ -1,75 +1,98 @@
-// What is lent to a call, before it and after it, and the line of a case.
-
+// Reading and writing, with what is lent to a call before it and after it.
+use crate::duties::refuses_as_reading;
+use crate::table::{each, line, no_numbers};
+use std::alloc::Global;
 use std::io;
 
 // What a list holds before a call, over and over. No number of these is in a range.
-pub const NUMBERS: [u32; 4] = [0xb0000007, 0xc1000b03, 0xd200020d, 0xe3000f0b];
+const NUMBERS: [u32; 4] = [0xb0000007, 0xc1000b03, 0xd200020d, 0xe3000f0b];
 
-// What lent bytes hold before a call.
-pub const BYTES: [u8; 8] = [0xa5; 8];
+// What each lent byte is before a call.
+const BYTE: u8 = 0xa5;
 
-// The line of a case: what is called, the case, the refusal number that it is to get, 0 where it is accepted, and whether it is so.
-pub fn line(rt: &impl Print, call: &str, case: &[u8], refusal: u64, ok: bool) -> io::Result<()> {
-    print!(rt; "{call}")?;
-    rt.write_all(case)?;
-    let word = if ok { "ok" } else { "wrong" };
-    println!(rt; " gets {refusal} {word}")
+// A list of this size before a call.
+fn lent_list(alloc: Global, size: usize) -> io::Result<Vec<u32>> {
+    let list = NUMBERS.iter().copied().cycle().take(size).collect(alloc)?;
+    Ok(list)
 }
 
-// The number at a place, where these numbers stand first and then these four, over and over.
-fn number_at(numbers: &[u32], four: [u32; 4], i: usize) -> u32 {
-    if i < numbers.len() {
-        return numbers[i];
-    }
-    four[(i - numbers.len()) % 4]
-}
-
-// Fills a list with these numbers, and then with these four, over and over.
-pub fn fill_list(list: &mut [u32], numbers: &[u32], four: [u32; 4]) {
-    let mut i = 0;
-    while i < list.len() {
-        list[i] = number_at(numbers, four, i);
-        i += 1;
+// Whether what was lent begins with these after a call, and then goes on as it was before.
+fn begins<T: PartialEq>(after: &[T], these: &[T], before: &[T]) -> bool {
+    match after.strip_prefix(these) {
+        Some(rest) => before.get(these.len()..) == Some(rest),
+        None => false,
     }
 }
 
-// Whether a list begins with these numbers, which are whole entries, and holds after them what it held before the call.
-pub fn list_is(list: &[u32], numbers: &[u32]) -> bool {
-    let mut i = 0;
-    while i < list.len() {
-        if list[i] != number_at(numbers, NUMBERS, i) {
-            return false;
-        }
-        i += 1;
-    }
-    numbers.len() <= list.len()
+// Whether reading a string into a list of this size gives this refusal number and these entries.
+pub fn read_is(
+    alloc: Global,
+    string: &[u8],
+    size: usize,
+    refusal: u64,
+    entries: &[u32],
+) -> io::Result<bool> {
+    let before = lent_list(alloc, size)?;
+    let mut list = before.clone()?;
+    let answer = volume::read_volume(string, &mut list);
+    Ok(
+        refusal::number_of(answer) == refusal
+            && answer.unwrap_or(0) == entries.len() / 4
+            && begins(&list, entries, &before),
+    )
 }
 
-// The byte at a place, where this string stands first and then these eight bytes, over and over.
-fn byte_at(string: &[u8], eight: [u8; 8], i: usize) -> u8 {
-    if i < string.len() {
-        return string[i];
-    }
-    eight[(i - string.len()) % 8]
+// Reads a string into a list of this size.
+pub fn reads(
+    rt: &(impl Print + AllocGlobal),
+    case: &str,
+    string: &[u8],
+    size: usize,
+    refusal: u64,
+    entries: &[u32],
+) -> io::Result<()> {
+    let is_right = read_is(rt.alloc(), string, size, refusal, entries)?;
+    line(rt, "read", case, refusal, is_right)
 }
 
-// Fills bytes with this string, and then with these eight, over and over.
-pub fn fill_bytes(bytes: &mut [u8], string: &[u8], eight: [u8; 8]) {
-    let mut i = 0;
-    while i < bytes.len() {
-        bytes[i] = byte_at(string, eight, i);
-        i += 1;
-    }
+// Writes a list into this number of lent bytes, which is to give this refusal number and this string.
+pub fn writes(
+    rt: &(impl Print + AllocGlobal),
+    case: &str,
+    list: &[u32],
+    size: usize,
+    refusal: u64,
+    string: &[u8],
+) -> io::Result<()> {
+    let before = vec![in rt.alloc(); BYTE; size]?;
+    let mut lent = before.clone()?;
+    let answer = volume::write_volume(list, &mut lent);
+    let is_right = refusal::number_of(answer) == refusal
+        && answer.unwrap_or(0) == string.len()
+        && begins(&lent, string, &before);
+    line(rt, "write", case, refusal, is_right)
 }
 
-// Whether bytes begin with this string, and hold after it what they held before the call.
-pub fn bytes_are(bytes: &[u8], string: &[u8]) -> bool {
-    let mut i = 0;
-    while i < bytes.len() {
-        if bytes[i] != byte_at(string, BYTES, i) {
-            return false;
-        }
-        i += 1;
-    }
-    string.len() <= bytes.len()
+// Reads each string of a table, and takes its duty. Its numbers are the size of the list, the refusal number, which is 0 where the string is accepted,
+// and the numbers of the entries; a refused string has none.
+pub fn read_each(rt: &(impl Print + AllocGlobal), table: &str) -> io::Result<()> {
+    each(rt, table, |case, string, numbers| {
+        let [size, refusal, entries @ ..] = numbers else {
+            return no_numbers(rt, case);
+        };
+        let refusal = u64::from(*refusal);
+        reads(rt, case, string, *size as usize, refusal, entries)?;
+        refuses_as_reading(rt, case, string, refusal)
+    })
+}
+
+// Writes the entries of each case of a table. Its numbers are the number of lent bytes, the refusal number, which is 0 where the list is accepted, and
+// the numbers of the entries; a refused list has no bytes.
+pub fn write_each(rt: &(impl Print + AllocGlobal), table: &str) -> io::Result<()> {
+    each(rt, table, |case, string, numbers| {
+        let [size, refusal, list @ ..] = numbers else {
+            return no_numbers(rt, case);
+        };
+        writes(rt, case, list, *size as usize, u64::from(*refusal), string)
+    })
 }
