@@ -17,7 +17,8 @@ use Rattle.steps.specs.Steps.{word_at}
 use Rattle.setup.specs.SetUp as SetUp
 use Rattle.setup.specs.SetUp.{Undone}
 use Rattle.varint.specs.Number.{Reading, is, ended, malformed, read_number}
-use Rattle.volume.specs.Volume.{Range, in_range, count_range, minutes_range, litres_range, ratio_range, product_range, most_groups as groups}
+use Rattle.volume.specs.declared.Range.{Range}
+use Rattle.volume.specs.Volume.{in_range, count_range, minutes_range, litres_range, ratio_range, product_range, most_groups as groups}
 use Rattle.volume.specs.Calls.{number_read, read_value, read_entry, read_entries, is_empty, entries_in}
 use Rattle.rates.specs.Calls.{pair_count_range, rate_range, refused_as24, read_pair, read_pairs, pairs_in, load_rates}
 use Rattle.laws.specs.Result.{Result, refused, accepted, outcome, ◌>>=◌, ◌>>◌, refuse◌unless◌, refuse◌without◌}
