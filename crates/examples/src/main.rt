@@ -1,6 +1,7 @@
 // The examples of documents 01 and 02 that are run, their edges, and every refusal of every call: a line each, `ok` or `wrong`.
 #![tactic(auto)]
 
+use cipher::Cipher;
 use std::io;
 
 mod compare;
@@ -10,19 +11,28 @@ mod refusals;
 mod story;
 mod words;
 
+// Both ciphers.
+const BOTH: [Cipher; 2] = [Cipher::Hc128, Cipher::Hc256];
+
 fn main(rt: HostRuntime) -> io::Result<()> {
     refusals::unknown_codes(&rt)?;
     refusals::other_lengths(&rt)?;
-    refusals::of_cipher(&rt, 1, 16, 1024, 4096)?;
-    refusals::of_cipher(&rt, 2, 32, 2048, 8192)?;
+    for cipher in BOTH {
+        refusals::of_cipher(&rt, cipher)?;
+    }
     words::unknown_codes(&rt)?;
-    words::places(&rt, 1, 16, 1024, 4096)?;
-    words::places(&rt, 2, 32, 2048, 8192)?;
+    for cipher in BOTH {
+        words::places(&rt, cipher)?;
+    }
     lengths::unknown_codes(&rt)?;
-    lengths::of_cipher(&rt, 1, 4096)?;
-    lengths::of_cipher(&rt, 2, 8192)?;
-    story::of_cipher(&rt, 1)?;
-    story::of_cipher(&rt, 2)?;
-    words::of_cipher(&rt, 1)?;
-    words::of_cipher(&rt, 2)
+    for cipher in BOTH {
+        lengths::of_cipher(&rt, cipher)?;
+    }
+    for cipher in BOTH {
+        story::of_cipher(&rt, cipher)?;
+    }
+    for cipher in BOTH {
+        words::of_cipher(&rt, cipher)?;
+    }
+    Ok(())
 }

@@ -1,551 +1,527 @@
 // Calls that leave everything as it is: every refusal of every call, and calls with nothing to do, which get 0.
-ghost use Rattle.std.specs.Prelude.{◌+◌, ◌≤◌};
-
 use crate::compare::{
-    ANY, MARK, fill_bytes, fill_words, flipped_on, gave, has_bytes, has_spent, has_words, is_head,
-    put_opening, wide,
+    ANY, MARK, STRIDE, bytes, fill, flipped, head_on, is_filled, put_opening, words,
 };
-use crate::line;
+use crate::line::{Hex, gets};
+use cipher::Cipher;
 use engine::Head;
-use engine::answers::LoadAnswer;
-use std::io;
+use engine::answers::Next;
+use refusal::Refusal;
+use std::{fmt, io};
 
-// The difference of neighbours where words are told apart.
-pub const STRIDE: u32 = 0x9e3779b9;
+// ---- whether a call gets an answer and leaves what was lent
 
-// Whether set up gets a refusal number, and head and area stay.
-fn refuses_set_up(code: u32, key: &[u8], iv: &[u8], area: &mut [u32], refusal: u64) -> bool {
-    fill_words(area, 7, STRIDE);
-    let head = Head::at(2, 77, ANY, MARK);
-    let done = head.set_up(code, key, iv, area);
-    has_words(area, 7, STRIDE) & gave(done, refusal, head)
-}
-
-// Whether cipher by a head gets a refusal number, and head and bytes stay.
-pub fn refuses_cipher(head: Head, area: &mut [u32], bytes: &mut [u8], refusal: u64) -> bool {
-    fill_bytes(bytes, 5, 3);
-    let done = head.cipher(area, bytes);
-    has_bytes(bytes, 5, 3) & gave(done, refusal, head)
-}
-
-// Whether cipher by a head of this code and position, with these bits of its word changed, gets a refusal number, and the area stays.
-fn refuses_cipher_on(
-    code: u32,
-    position: u64,
-    bits: u32,
+// Cipher, of so many bytes.
+pub fn refuses_cipher(
+    rt: &impl AllocGlobal,
+    head: Head,
     area: &mut [u32],
-    bytes: &mut [u8],
-    refusal: u64,
-) -> bool {
-    fill_words(area, 7, STRIDE);
-    let head = flipped_on(code, position, bits, area);
-    refuses_cipher(head, area, bytes, refusal) & has_words(area, 7, STRIDE)
+    n: usize,
+    answer: Result<(), Refusal>,
+) -> io::Result<bool> {
+    let mut lent = bytes(rt, n, 5, 3)?;
+    let next = head.cipher(area, &mut lent);
+    Ok(next == Next { head, answer } && is_filled(&lent, 5, 3))
 }
 
-// Whether move by a head gets a refusal number, and the head stays.
-pub fn refuses_move(head: Head, area: &mut [u32], distance: i64, refusal: u64) -> bool {
-    let done = head.move_by(area, distance);
-    gave(done, refusal, head)
-}
-
-// Whether move by a head of this code and position, with these bits of its word changed, gets a refusal number, and the area stays.
-fn refuses_move_on(
-    code: u32,
-    position: u64,
-    bits: u32,
+// Move, by a distance.
+pub fn refuses_move(
+    head: Head,
     area: &mut [u32],
     distance: i64,
-    refusal: u64,
+    answer: Result<(), Refusal>,
 ) -> bool {
-    fill_words(area, 7, STRIDE);
-    let head = flipped_on(code, position, bits, area);
-    refuses_move(head, area, distance, refusal) & has_words(area, 7, STRIDE)
+    head.move_by(area, distance) == Next { head, answer }
 }
 
-// Whether write by a head gets a refusal number and no length, and head and bytes stay.
-pub fn refuses_write(head: Head, area: &[u32], lent: &mut [u8], refusal: u64) -> bool {
-    fill_bytes(lent, 5, 3);
-    let done = head.write(area, lent);
-    let kept = done.head;
-    let answer = done.answer;
-    let none = (answer.refusal == refusal) & (answer.length == 0);
-    none & has_bytes(lent, 5, 3) & is_head(kept, head)
-}
-
-// Whether write by a head of this code and position, with these bits of its word changed, gets a refusal number.
-fn refuses_write_on(
-    code: u32,
-    position: u64,
-    bits: u32,
-    area: &[u32],
-    lent: &mut [u8],
-    refusal: u64,
-) -> bool {
-    refuses_write(flipped_on(code, position, bits, area), area, lent, refusal)
-}
-
-// Whether recover by a head gets a refusal number, and head and buffers stay.
-pub fn refuses_recover(
+// Write, where so many bytes are lent.
+pub fn refuses_write(
+    rt: &impl AllocGlobal,
     head: Head,
     area: &[u32],
-    key: &mut [u8],
-    iv: &mut [u8],
-    refusal: u64,
-) -> bool {
-    fill_bytes(key, 5, 3);
-    fill_bytes(iv, 6, 5);
-    let done = head.recover(area, key, iv);
-    has_bytes(key, 5, 3) & has_bytes(iv, 6, 5) & gave(done, refusal, head)
+    n: usize,
+    refusal: Refusal,
+) -> io::Result<bool> {
+    let mut lent = bytes(rt, n, 5, 3)?;
+    let next = head.write(area, &mut lent);
+    let answer = Err(refusal);
+    Ok(next == Next { head, answer } && is_filled(&lent, 5, 3))
 }
 
-// Whether recover by a head of this code and position, with these bits of its word changed, gets a refusal number.
-fn refuses_recover_on(
-    code: u32,
-    position: u64,
-    bits: u32,
+// Recover, with buffers of these lengths.
+pub fn refuses_recover(
+    rt: &impl AllocGlobal,
+    head: Head,
     area: &[u32],
-    key: &mut [u8],
-    iv: &mut [u8],
-    refusal: u64,
-) -> bool {
-    refuses_recover(
-        flipped_on(code, position, bits, area),
-        area,
-        key,
-        iv,
-        refusal,
-    )
+    key: usize,
+    iv: usize,
+    refusal: Refusal,
+) -> io::Result<bool> {
+    let mut key = bytes(rt, key, 5, 3)?;
+    let mut iv = bytes(rt, iv, 6, 5)?;
+    let next = head.recover(area, &mut key, &mut iv);
+    let answer = Err(refusal);
+    Ok(next == Next { head, answer } && is_filled(&key, 5, 3) && is_filled(&iv, 6, 5))
 }
 
-// Whether load of a string that begins with this code and these bytes of a position gets a refusal number.
-fn refuses_opening(
-    code: u8,
-    position: &[u8],
-    string: &mut [u8],
+// Load of a string, into an area that is filled before.
+pub fn refuses_load(string: &[u8], area: &mut [u32], refusal: Refusal) -> bool {
+    fill(area, 7, STRIDE);
+    let head = Head::at(2, 77, ANY, MARK);
+    let next = head.load(area, string);
+    let answer = Err(refusal);
+    next == Next { head, answer } && is_filled(area, 7, STRIDE)
+}
+
+// Set up, with a key and an IV of these lengths.
+fn refuses_set_up(
+    rt: &impl AllocGlobal,
+    code: u32,
     area: &mut [u32],
-    refusal: u64,
-) -> bool {
-    fill_bytes(string, 5, 3);
-    put_opening(string, code, position);
-    refuses_load(string, area, refusal)
-}
-
-// Whether load gave no key and no IV.
-fn finds_nothing(answer: LoadAnswer) -> bool {
-    let key = answer.key;
-    let iv = answer.iv;
-    has_words(&key, 0, 0) & has_words(&iv, 0, 0)
-}
-
-// Whether load gets a refusal number and no key and IV, and head and area stay.
-pub fn refuses_load(string: &[u8], area: &mut [u32], refusal: u64) -> bool {
-    fill_words(area, 7, STRIDE);
-    let kept = Head::at(2, 77, ANY, MARK);
-    let done = kept.load(area, string);
-    let head = done.head;
-    let answer = done.answer;
-    let none = (answer.refusal == refusal) & finds_nothing(answer);
-    none & has_words(area, 7, STRIDE) & is_head(head, kept)
-}
-
-// Set up with a key, an IV and an area of these lengths.
-fn set_up_case(
-    rt: &impl Print,
-    code: u32,
     key: usize,
     iv: usize,
-    area: usize,
-    refusal: u64,
-) -> io::Result<()>
-    requires { (key ≤ 33) × (iv ≤ 33) × (area ≤ 2049) }
-{
-    line::word(rt, "set up code ", code)?;
-    line::size(rt, " key ", key)?;
-    line::size(rt, " IV ", iv)?;
-    line::size(rt, " area ", area)?;
-    let a = [0u8; 33];
-    let b = [0u8; 33];
-    let mut words = [0u32; 2049];
-    let ok = refuses_set_up(code, &a[..key], &b[..iv], &mut words[..area], refusal);
-    line::gets(rt, refusal, ok)
+    answer: Result<(), Refusal>,
+) -> io::Result<bool> {
+    let key = bytes(rt, key, 0, 0)?;
+    let iv = bytes(rt, iv, 0, 0)?;
+    let head = Head::at(2, 77, ANY, MARK);
+    Ok(head.set_up(code, &key, &iv, area) == Next { head, answer })
 }
 
-// Cipher by a head of this code and position, of whose word these bits are changed, with an area and bytes of these lengths.
-pub fn cipher_changed(
-    rt: &impl Print,
+// ---- the cases
+
+// A call by a head at a position, with lengths.
+#[derive(Clone, Copy)]
+pub enum Call<'a> {
+    // with a key and an IV of these lengths
+    SetUp(usize, usize),
+    // at a position, of so many bytes
+    Cipher(u64, usize),
+    // at a position, by a distance
+    Move(u64, i64),
+    // at a position, where so many bytes are lent
+    Write(u64, usize),
+    // at a position, with buffers of these lengths
+    Recover(u64, usize, usize),
+    // of a string that begins with the bytes of a position after the code, and has so many bytes
+    Load(&'a [u8], usize),
+    // at a position
+    Spent(u64),
+}
+
+// A call with a cipher code and an area of so many words, by a head with these bits of its true word changed.
+#[derive(Clone, Copy)]
+pub struct Case<'a> {
+    pub code: u32,
+    pub call: Call<'a>,
+    pub bits: u32,
+    pub area: usize,
+}
+
+// The bits of a word that are changed; nothing where none is.
+#[derive(Clone, Copy)]
+struct Changed(u32);
+
+impl fmt::Display for Changed {
+    fn fmt<W: fmt::Write>(&self, f: &mut fmt::Formatter<W>) -> fmt::Result {
+        match self.0 {
+            0 => Ok(()),
+            bits => write!(f, " word changed by {bits:08x}"),
+        }
+    }
+}
+
+impl fmt::Display for Case<'_> {
+    fn fmt<W: fmt::Write>(&self, f: &mut fmt::Formatter<W>) -> fmt::Result {
+        let code = self.code;
+        let area = self.area;
+        let changed = Changed(self.bits);
+        match self.call {
+            Call::SetUp(key, iv) => write!(f, "set up code {code} key {key} IV {iv} area {area}"),
+            Call::Cipher(at, n) => {
+                write!(
+                    f,
+                    "cipher code {code} at {at}{changed} area {area} bytes {n}"
+                )
+            }
+            Call::Move(at, distance) => {
+                write!(
+                    f,
+                    "move code {code} at {at}{changed} area {area} by {distance}"
+                )
+            }
+            Call::Write(at, n) => {
+                write!(
+                    f,
+                    "write code {code} at {at}{changed} area {area} bytes {n}"
+                )
+            }
+            Call::Recover(at, key, iv) => {
+                write!(
+                    f,
+                    "recover code {code} at {at}{changed} area {area} key {key} IV {iv}"
+                )
+            }
+            Call::Load(position, n) => {
+                let position = Hex(position);
+                write!(
+                    f,
+                    "load code {code} position{position} bytes {n} area {area}"
+                )
+            }
+            Call::Spent(at) => write!(f, "spent code {code} at {at}"),
+        }
+    }
+}
+
+impl Case<'_> {
+    // The head of the call.
+    fn head(self, position: u64, area: &[u32]) -> Head {
+        flipped(head_on(self.code, position, MARK, area), self.bits)
+    }
+
+    // Whether load of a string with the code and the bytes of a position, and of this length, is refused.
+    fn load_is_refused(
+        self,
+        rt: &impl AllocGlobal,
+        position: &[u8],
+        n: usize,
+        refusal: Refusal,
+    ) -> io::Result<bool> {
+        let mut string = bytes(rt, n, 5, 3)?;
+        let mut area = words(rt, self.area, 0, 0)?;
+        put_opening(&mut string, (self.code % 256) as u8, position);
+        Ok(refuses_load(&string, &mut area, refusal))
+    }
+
+    // Whether the call is refused, and everything stays.
+    fn is_refused(self, rt: &impl AllocGlobal, refusal: Refusal) -> io::Result<bool> {
+        let same = words(rt, self.area, 7, 0)?;
+        match self.call {
+            Call::Write(at, n) => refuses_write(rt, self.head(at, &same), &same, n, refusal),
+            Call::Recover(at, key, iv) => {
+                refuses_recover(rt, self.head(at, &same), &same, key, iv, refusal)
+            }
+            Call::Load(position, n) => self.load_is_refused(rt, position, n, refusal),
+            Call::Spent(at) => {
+                let head = Head::at(self.code, at, ANY, MARK);
+                let answer = Err(refusal);
+                Ok(head.spent() == Next { head, answer })
+            }
+            _ => self.leaves_all(rt, Err(refusal)),
+        }
+    }
+
+    // Whether a call that may change the area gets an answer, and everything stays.
+    fn leaves_all(self, rt: &impl AllocGlobal, answer: Result<(), Refusal>) -> io::Result<bool> {
+        let mut area = words(rt, self.area, 7, STRIDE)?;
+        let ok = match self.call {
+            Call::SetUp(key, iv) => refuses_set_up(rt, self.code, &mut area, key, iv, answer)?,
+            Call::Cipher(at, n) => refuses_cipher(rt, self.head(at, &area), &mut area, n, answer)?,
+            Call::Move(at, distance) => {
+                refuses_move(self.head(at, &area), &mut area, distance, answer)
+            }
+            _ => false,
+        };
+        Ok(ok && is_filled(&area, 7, STRIDE))
+    }
+
+    // The line of the case where it is refused.
+    pub fn is_to_get(self, rt: &(impl Print + AllocGlobal), refusal: Refusal) -> io::Result<()> {
+        let ok = self.is_refused(rt, refusal)?;
+        gets(rt, self, Err(refusal), ok)
+    }
+
+    // The line of the case where there is nothing to do.
+    fn is_to_do_nothing(self, rt: &(impl Print + AllocGlobal)) -> io::Result<()> {
+        let ok = self.leaves_all(rt, Ok(()))?;
+        gets(rt, self, Ok(()), ok)
+    }
+}
+
+// Calls with a code and areas of these lengths, each with its refusal.
+fn refuses(
+    rt: &(impl Print + AllocGlobal),
     code: u32,
-    position: u64,
-    bits: u32,
-    area: usize,
-    bytes: usize,
-    refusal: u64,
-) -> io::Result<()>
-    requires { (area ≤ 2049) × (bytes ≤ 5) }
-{
-    line::call(rt, "cipher", code, position, bits, area)?;
-    line::size(rt, " bytes ", bytes)?;
-    let mut words = [0u32; 2049];
-    let mut lent = [0u8; 5];
-    let ok = refuses_cipher_on(
-        code,
-        position,
-        bits,
-        &mut words[..area],
-        &mut lent[..bytes],
-        refusal,
-    );
-    line::gets(rt, refusal, ok)
+    cases: &[(Call<'_>, usize, Refusal)],
+) -> io::Result<()> {
+    for &(call, area, refusal) in cases {
+        let case = Case {
+            code,
+            call,
+            bits: 0,
+            area,
+        };
+        case.is_to_get(rt, refusal)?;
+    }
+    Ok(())
 }
 
-// Cipher by a head with a true word.
-fn cipher_case(
-    rt: &impl Print,
-    code: u32,
-    position: u64,
-    area: usize,
-    bytes: usize,
-    refusal: u64,
-) -> io::Result<()>
-    requires { (area ≤ 2049) × (bytes ≤ 5) }
-{
-    cipher_changed(rt, code, position, 0, area, bytes, refusal)
+// A position over the limit.
+const OVER: u64 = 67_108_865;
+
+// A code that is neither cipher's is refused by each call that takes a code or a head, with a cipher's lengths, and whatever else is wrong.
+fn unknown_code(rt: &(impl Print + AllocGlobal), code: u32, cipher: Cipher) -> io::Result<()> {
+    let (key, area) = (cipher.key_bytes(), cipher.area_words());
+    let (short, few) = (key.saturating_sub(1), area.saturating_sub(1));
+    for (call, area) in [
+        (Call::SetUp(key, key), area),
+        (Call::SetUp(short, 33), 2049),
+        (Call::Cipher(0, 5), area),
+        (Call::Cipher(OVER, 5), few),
+        (Call::Move(0, 1), area),
+        (Call::Move(OVER, -1), few),
+        (Call::Write(0, 8197), area),
+        (Call::Write(OVER, 10), few),
+        (Call::Recover(0, key, key), area),
+        (Call::Recover(OVER, short, short), few),
+        (Call::Spent(0), area),
+        (Call::Spent(OVER), area),
+    ] {
+        refuses(rt, code, &[(call, area, Refusal::BadCode)])?;
+    }
+    Ok(())
 }
 
-// Move by a head of this code and position, of whose word these bits are changed, with an area of this length.
-pub fn move_changed(
-    rt: &impl Print,
-    code: u32,
-    position: u64,
-    bits: u32,
-    area: usize,
-    distance: i64,
-    refusal: u64,
-) -> io::Result<()>
-    requires { area ≤ 2049 }
-{
-    line::call(rt, "move", code, position, bits, area)?;
-    line::signed(rt, " by ", distance)?;
-    let mut words = [0u32; 2049];
-    let ok = refuses_move_on(code, position, bits, &mut words[..area], distance, refusal);
-    line::gets(rt, refusal, ok)
+// The smallest code and the one after HC-256's; codes whose low bits are a cipher's; the largest byte and the largest code. Then checkpoints whose
+// first byte is neither cipher's code.
+pub fn unknown_codes(rt: &(impl Print + AllocGlobal)) -> io::Result<()> {
+    for code in [0, 3, 255, 257, 65_537] {
+        unknown_code(rt, code, Cipher::Hc128)?;
+    }
+    for code in [16_777_218, u32::MAX] {
+        unknown_code(rt, code, Cipher::Hc256)?;
+    }
+    for code in [0, 3, 255] {
+        for (call, area) in [
+            (Call::Load(b"\x00", 4098), 1024),
+            (Call::Load(b"", 1), 1023),
+        ] {
+            refuses(rt, code, &[(call, area, Refusal::BadCode)])?;
+        }
+    }
+    Ok(())
 }
 
-// Move by a head with a true word.
-fn move_case(
-    rt: &impl Print,
-    code: u32,
-    position: u64,
-    area: usize,
-    distance: i64,
-    refusal: u64,
-) -> io::Result<()>
-    requires { area ≤ 2049 }
-{
-    move_changed(rt, code, position, 0, area, distance, refusal)
+// Lengths of the other cipher, and an area of none.
+pub fn other_lengths(rt: &(impl Print + AllocGlobal)) -> io::Result<()> {
+    for (code, call, area, refusal) in [
+        (2, Call::SetUp(16, 16), 1024, Refusal::KeyLength),
+        (1, Call::SetUp(16, 32), 1024, Refusal::IvLength),
+        (1, Call::Recover(77, 32, 32), 1024, Refusal::KeyLength),
+        (1, Call::SetUp(16, 16), 2048, Refusal::AreaLength),
+        (2, Call::SetUp(32, 32), 1024, Refusal::AreaLength),
+        (1, Call::Cipher(0, 0), 2048, Refusal::AreaLength),
+        (2, Call::Cipher(0, 0), 1024, Refusal::AreaLength),
+        (1, Call::Move(0, 0), 2048, Refusal::AreaLength),
+        (2, Call::Move(0, 0), 1024, Refusal::AreaLength),
+        (1, Call::Write(0, 8197), 2048, Refusal::AreaLength),
+        (2, Call::Write(0, 8197), 1024, Refusal::AreaLength),
+        (1, Call::Recover(0, 16, 16), 2048, Refusal::AreaLength),
+        (2, Call::Recover(0, 32, 32), 1024, Refusal::AreaLength),
+        (1, Call::Load(b"\x00", 8194), 2048, Refusal::AreaLength),
+        (2, Call::Load(b"\x00", 4098), 1024, Refusal::AreaLength),
+        (1, Call::Cipher(0, 0), 0, Refusal::AreaLength),
+    ] {
+        refuses(rt, code, &[(call, area, refusal)])?;
+    }
+    Ok(())
 }
 
-// Write by a head of this code and position, of whose word these bits are changed, with an area and lent bytes of these lengths.
-pub fn write_changed(
-    rt: &impl Print,
-    code: u32,
-    position: u64,
-    bits: u32,
-    area: usize,
-    bytes: usize,
-    refusal: u64,
-) -> io::Result<()>
-    requires { (area ≤ 2049) × (bytes ≤ 8197) }
-{
-    line::call(rt, "write", code, position, bits, area)?;
-    line::size(rt, " bytes ", bytes)?;
-    let words = [7u32; 2049];
-    let mut lent = [0u8; 8197];
-    let ok = refuses_write_on(
-        code,
-        position,
-        bits,
-        &words[..area],
-        &mut lent[..bytes],
-        refusal,
-    );
-    line::gets(rt, refusal, ok)
+// A call of a cipher with nothing to do.
+fn nothing_to_do(
+    rt: &(impl Print + AllocGlobal),
+    cipher: Cipher,
+    call: Call<'_>,
+) -> io::Result<()> {
+    let case = Case {
+        code: cipher.code(),
+        call,
+        bits: 0,
+        area: cipher.area_words(),
+    };
+    case.is_to_do_nothing(rt)
 }
 
-// Write by a head with a true word.
-fn write_case(
-    rt: &impl Print,
-    code: u32,
-    position: u64,
-    area: usize,
-    bytes: usize,
-    refusal: u64,
-) -> io::Result<()>
-    requires { (area ≤ 2049) × (bytes ≤ 8197) }
-{
-    write_changed(rt, code, position, 0, area, bytes, refusal)
-}
-
-// Recover by a head of this code and position, of whose word these bits are changed, with an area and buffers of these lengths.
-pub fn recover_changed(
-    rt: &impl Print,
-    code: u32,
-    position: u64,
-    bits: u32,
-    area: usize,
-    key: usize,
-    iv: usize,
-    refusal: u64,
-) -> io::Result<()>
-    requires { (area ≤ 2049) × (key ≤ 33) × (iv ≤ 33) }
-{
-    line::call(rt, "recover", code, position, bits, area)?;
-    line::size(rt, " key ", key)?;
-    line::size(rt, " IV ", iv)?;
-    let words = [7u32; 2049];
-    let mut a = [0u8; 33];
-    let mut b = [0u8; 33];
-    let ok = refuses_recover_on(
-        code,
-        position,
-        bits,
-        &words[..area],
-        &mut a[..key],
-        &mut b[..iv],
-        refusal,
-    );
-    line::gets(rt, refusal, ok)
-}
-
-// Recover by a head with a true word.
-fn recover_case(
-    rt: &impl Print,
-    code: u32,
-    position: u64,
-    area: usize,
-    key: usize,
-    iv: usize,
-    refusal: u64,
-) -> io::Result<()>
-    requires { (area ≤ 2049) × (key ≤ 33) × (iv ≤ 33) }
-{
-    recover_changed(rt, code, position, 0, area, key, iv, refusal)
-}
-
-// Load of a string of this length, which begins with this code and these bytes of a position, into an area of this length.
-fn load_case(
-    rt: &impl Print,
-    code: u8,
-    position: &[u8],
-    bytes: usize,
-    area: usize,
-    refusal: u64,
-) -> io::Result<()>
-    requires { (bytes ≤ 8200) × (area ≤ 2049) }
-{
-    line::byte(rt, "load code ", code)?;
-    line::text(rt, " position")?;
-    line::hex(rt, position)?;
-    line::size(rt, " bytes ", bytes)?;
-    line::size(rt, " area ", area)?;
-    let mut string = [0u8; 8200];
-    let mut words = [0u32; 2049];
-    let ok = refuses_opening(
-        code,
-        position,
-        &mut string[..bytes],
-        &mut words[..area],
-        refusal,
-    );
-    line::gets(rt, refusal, ok)
-}
-
-// Spent by a head of this code and position.
-fn spent_case(rt: &impl Print, code: u32, position: u64, refusal: u64) -> io::Result<()> {
-    line::word(rt, "spent code ", code)?;
-    line::number(rt, " at ", position)?;
-    line::gets(
+fn set_up_cases(rt: &(impl Print + AllocGlobal), cipher: Cipher) -> io::Result<()> {
+    let (m, n) = (cipher.key_bytes(), cipher.area_words());
+    let (short, long) = (m.saturating_sub(1), m + 1);
+    let (few, many) = (n.saturating_sub(1), n + 1);
+    refuses(
         rt,
-        refusal,
-        has_spent(Head::at(code, position, ANY, MARK), refusal, 0),
+        cipher.code(),
+        &[
+            (Call::SetUp(0, 0), 0, Refusal::KeyLength),
+            (Call::SetUp(short, short), n, Refusal::KeyLength),
+            (Call::SetUp(long, m), few, Refusal::KeyLength),
+            (Call::SetUp(m, short), few, Refusal::IvLength),
+            (Call::SetUp(m, long), n, Refusal::IvLength),
+            (Call::SetUp(m, m), few, Refusal::AreaLength),
+            (Call::SetUp(m, m), many, Refusal::AreaLength),
+        ],
     )
 }
 
-// A code that is neither cipher's gets 1 from each call that takes a code or a head, with these lengths, and whatever else is wrong.
-fn unknown_code(rt: &impl Print, code: u32, key: usize, area: usize) -> io::Result<()>
-    requires { (1 ≤ key) × (key ≤ 32) × (1 ≤ area) × (area ≤ 2048) }
-{
-    set_up_case(rt, code, key, key, area, 1)?;
-    set_up_case(rt, code, key - 1, 33, 2049, 1)?;
-    cipher_case(rt, code, 0, area, 5, 1)?;
-    cipher_case(rt, code, 67_108_865, area - 1, 5, 1)?;
-    move_case(rt, code, 0, area, 1, 1)?;
-    move_case(rt, code, 67_108_865, area - 1, -1, 1)?;
-    write_case(rt, code, 0, area, 8197, 1)?;
-    write_case(rt, code, 67_108_865, area - 1, 10, 1)?;
-    recover_case(rt, code, 0, area, key, key, 1)?;
-    recover_case(rt, code, 67_108_865, area - 1, key - 1, key - 1, 1)?;
-    spent_case(rt, code, 0, 1)?;
-    spent_case(rt, code, 67_108_865, 1)
+fn cipher_cases(rt: &(impl Print + AllocGlobal), cipher: Cipher) -> io::Result<()> {
+    let n = cipher.area_words();
+    let (few, many) = (n.saturating_sub(1), n + 1);
+    refuses(
+        rt,
+        cipher.code(),
+        &[
+            (Call::Cipher(OVER, 5), few, Refusal::AreaLength),
+            (Call::Cipher(OVER, 0), many, Refusal::AreaLength),
+            (Call::Cipher(OVER, 0), n, Refusal::BadPosition),
+            (Call::Cipher(u64::MAX, 5), n, Refusal::BadPosition),
+            (Call::Cipher(67_108_860, 5), n, Refusal::PastLimit),
+            (Call::Cipher(67_108_863, 2), n, Refusal::PastLimit),
+            (Call::Cipher(67_108_864, 1), n, Refusal::PastLimit),
+        ],
+    )?;
+    nothing_to_do(rt, cipher, Call::Cipher(67_108_864, 0))
 }
 
-// A checkpoint whose first byte is neither cipher's code gets 1 from load.
-fn unknown_byte(rt: &impl Print, code: u8) -> io::Result<()> {
-    load_case(rt, code, b"\x00", 4098, 1024, 1)?;
-    load_case(rt, code, b"", 1, 1023, 1)
+fn move_cases(rt: &(impl Print + AllocGlobal), cipher: Cipher) -> io::Result<()> {
+    let n = cipher.area_words();
+    let (few, many) = (n.saturating_sub(1), n + 1);
+    refuses(
+        rt,
+        cipher.code(),
+        &[
+            (Call::Move(OVER, 1), few, Refusal::AreaLength),
+            (Call::Move(OVER, i64::MIN), many, Refusal::AreaLength),
+            (Call::Move(OVER, i64::MIN), n, Refusal::BadPosition),
+            (Call::Move(u64::MAX, i64::MAX), n, Refusal::BadPosition),
+            (Call::Move(0, -1), n, Refusal::BeforeStart),
+            (Call::Move(3, -4), n, Refusal::BeforeStart),
+            (Call::Move(67_108_864, -67_108_865), n, Refusal::BeforeStart),
+            (Call::Move(67_108_864, i64::MIN), n, Refusal::BeforeStart),
+            (Call::Move(0, 67_108_865), n, Refusal::PastLimit),
+            (Call::Move(67_108_863, 2), n, Refusal::PastLimit),
+            (Call::Move(67_108_864, i64::MAX), n, Refusal::PastLimit),
+            (Call::Move(67_108_864, 1), n, Refusal::PastLimit),
+        ],
+    )?;
+    nothing_to_do(rt, cipher, Call::Move(67_108_864, 0))
 }
 
-// The smallest code and the one after HC-256's; codes whose low bits are a cipher's; the largest byte and the largest code.
-pub fn unknown_codes(rt: &impl Print) -> io::Result<()> {
-    unknown_code(rt, 0, 16, 1024)?;
-    unknown_code(rt, 3, 16, 1024)?;
-    unknown_code(rt, 255, 16, 1024)?;
-    unknown_code(rt, 257, 16, 1024)?;
-    unknown_code(rt, 65_537, 16, 1024)?;
-    unknown_code(rt, 16_777_218, 32, 2048)?;
-    unknown_code(rt, u32::MAX, 32, 2048)?;
-    unknown_byte(rt, 0)?;
-    unknown_byte(rt, 3)?;
-    unknown_byte(rt, 255)
+// A checkpoint of the cipher has t bytes for its words.
+fn write_cases(rt: &(impl Print + AllocGlobal), cipher: Cipher) -> io::Result<()> {
+    let n = cipher.area_words();
+    let (few, many) = (n.saturating_sub(1), n + 1);
+    let t = 4 * n;
+    refuses(
+        rt,
+        cipher.code(),
+        &[
+            (Call::Write(OVER, 10), few, Refusal::AreaLength),
+            (Call::Write(OVER, t + 5), many, Refusal::AreaLength),
+            (Call::Write(OVER, 10), n, Refusal::BadPosition),
+            (Call::Write(u64::MAX, t + 5), n, Refusal::BadPosition),
+            (Call::Write(0, 0), n, Refusal::LittleRoom),
+            (Call::Write(0, t + 1), n, Refusal::LittleRoom),
+            (Call::Write(67_108_864, t + 4), n, Refusal::LittleRoom),
+        ],
+    )
 }
 
-// Lengths of the other cipher: a key gets 2, an IV 3 and an area 4, and so does none.
-pub fn other_lengths(rt: &impl Print) -> io::Result<()> {
-    set_up_case(rt, 2, 16, 16, 1024, 2)?;
-    set_up_case(rt, 1, 16, 32, 1024, 3)?;
-    recover_case(rt, 1, 77, 1024, 32, 32, 2)?;
-    set_up_case(rt, 1, 16, 16, 2048, 4)?;
-    set_up_case(rt, 2, 32, 32, 1024, 4)?;
-    cipher_case(rt, 1, 0, 2048, 0, 4)?;
-    cipher_case(rt, 2, 0, 1024, 0, 4)?;
-    move_case(rt, 1, 0, 2048, 0, 4)?;
-    move_case(rt, 2, 0, 1024, 0, 4)?;
-    write_case(rt, 1, 0, 2048, 8197, 4)?;
-    write_case(rt, 2, 0, 1024, 8197, 4)?;
-    recover_case(rt, 1, 0, 2048, 16, 16, 4)?;
-    recover_case(rt, 2, 0, 1024, 32, 32, 4)?;
-    load_case(rt, 1, b"\x00", 8194, 2048, 4)?;
-    load_case(rt, 2, b"\x00", 4098, 1024, 4)?;
-    cipher_case(rt, 1, 0, 0, 0, 4)
+fn recover_cases(rt: &(impl Print + AllocGlobal), cipher: Cipher) -> io::Result<()> {
+    let (m, n) = (cipher.key_bytes(), cipher.area_words());
+    let (short, long) = (m.saturating_sub(1), m + 1);
+    let (few, many) = (n.saturating_sub(1), n + 1);
+    refuses(
+        rt,
+        cipher.code(),
+        &[
+            (Call::Recover(OVER, short, short), few, Refusal::AreaLength),
+            (Call::Recover(OVER, m, m), many, Refusal::AreaLength),
+            (Call::Recover(OVER, short, short), n, Refusal::BadPosition),
+            (Call::Recover(u64::MAX, m, m), n, Refusal::BadPosition),
+            (Call::Recover(77, short, 0), n, Refusal::KeyLength),
+            (Call::Recover(77, long, m), n, Refusal::KeyLength),
+            (Call::Recover(77, m, 0), n, Refusal::IvLength),
+            (Call::Recover(77, m, long), n, Refusal::IvLength),
+            (Call::Recover(77, m, m), n, Refusal::NoKey),
+            (Call::Recover(0, m, m), n, Refusal::NoKey),
+        ],
+    )
 }
 
-fn set_up_cases(rt: &impl Print, code: u32, key: usize, area: usize) -> io::Result<()>
-    requires { (1 ≤ key) × (key ≤ 32) × (1 ≤ area) × (area ≤ 2048) }
-{
-    set_up_case(rt, code, 0, 0, 0, 2)?;
-    set_up_case(rt, code, key - 1, key - 1, area, 2)?;
-    set_up_case(rt, code, key + 1, key, area - 1, 2)?;
-    set_up_case(rt, code, key, key - 1, area - 1, 3)?;
-    set_up_case(rt, code, key, key + 1, area, 3)?;
-    set_up_case(rt, code, key, key, area - 1, 4)?;
-    set_up_case(rt, code, key, key, area + 1, 4)
+// A checkpoint of the cipher has t bytes for its words.
+fn load_cases(rt: &(impl Print + AllocGlobal), cipher: Cipher) -> io::Result<()> {
+    let n = cipher.area_words();
+    let (few, many) = (n.saturating_sub(1), n + 1);
+    let t = 4 * n;
+    refuses(
+        rt,
+        cipher.code(),
+        &[
+            (Call::Load(b"\x00", 0), few, Refusal::EndsEarly),
+            (Call::Load(b"", 1), few, Refusal::AreaLength),
+            (
+                Call::Load(b"\x80\x80\x80\x80", 5),
+                many,
+                Refusal::AreaLength,
+            ),
+            (Call::Load(b"\x00", 2), n, Refusal::StringLength),
+            (Call::Load(b"\x00", t + 1), n, Refusal::StringLength),
+            (Call::Load(b"\x83\x40", t + 4), n, Refusal::StringLength),
+            (
+                Call::Load(b"\x80\x80\x80\x20", t + 4),
+                n,
+                Refusal::StringLength,
+            ),
+            (Call::Load(b"\x00", t + 2), n, Refusal::NoKey),
+            (Call::Load(b"\xac\x02", t + 3), n, Refusal::NoKey),
+        ],
+    )
 }
 
-fn cipher_cases(rt: &impl Print, code: u32, area: usize) -> io::Result<()>
-    requires { (1 ≤ area) × (area ≤ 2048) }
-{
-    cipher_case(rt, code, 67_108_865, area - 1, 5, 4)?;
-    cipher_case(rt, code, 67_108_865, area + 1, 0, 4)?;
-    cipher_case(rt, code, 67_108_865, area, 0, 5)?;
-    cipher_case(rt, code, u64::MAX, area, 5, 5)?;
-    cipher_case(rt, code, 67_108_860, area, 5, 6)?;
-    cipher_case(rt, code, 67_108_863, area, 2, 6)?;
-    cipher_case(rt, code, 67_108_864, area, 1, 6)?;
-    cipher_case(rt, code, 67_108_864, area, 0, 0)
+// A checkpoint of the cipher has t bytes for its words.
+fn load_position_cases(rt: &(impl Print + AllocGlobal), cipher: Cipher) -> io::Result<()> {
+    let n = cipher.area_words();
+    let t = 4 * n;
+    refuses(
+        rt,
+        cipher.code(),
+        &[
+            (
+                Call::Load(b"\x81\x80\x80\x80\x00", t + 6),
+                n,
+                Refusal::BadNumber,
+            ),
+            (Call::Load(b"\xff\xff\xff\xff", 5), n, Refusal::BadNumber),
+            (Call::Load(b"", 1), n, Refusal::EndsEarly),
+            (Call::Load(b"\x80", 2), n, Refusal::EndsEarly),
+            (Call::Load(b"\x80\x80\x80", 4), n, Refusal::EndsEarly),
+            (Call::Load(b"\x80\x00", t + 3), n, Refusal::BadNumber),
+            (Call::Load(b"\xff\xff\xff\x00", 10), n, Refusal::BadNumber),
+            (Call::Load(b"\x81\x80\x80\x20", 5), n, Refusal::BadPosition),
+            (
+                Call::Load(b"\xff\xff\xff\x7f", t + 5),
+                n,
+                Refusal::BadPosition,
+            ),
+        ],
+    )
 }
 
-fn move_cases(rt: &impl Print, code: u32, area: usize) -> io::Result<()>
-    requires { (1 ≤ area) × (area ≤ 2048) }
-{
-    move_case(rt, code, 67_108_865, area - 1, 1, 4)?;
-    move_case(rt, code, 67_108_865, area + 1, i64::MIN, 4)?;
-    move_case(rt, code, 67_108_865, area, i64::MIN, 5)?;
-    move_case(rt, code, u64::MAX, area, i64::MAX, 5)?;
-    move_case(rt, code, 0, area, -1, 7)?;
-    move_case(rt, code, 3, area, -4, 7)?;
-    move_case(rt, code, 67_108_864, area, -67_108_865, 7)?;
-    move_case(rt, code, 67_108_864, area, i64::MIN, 7)?;
-    move_case(rt, code, 0, area, 67_108_865, 6)?;
-    move_case(rt, code, 67_108_863, area, 2, 6)?;
-    move_case(rt, code, 67_108_864, area, i64::MAX, 6)?;
-    move_case(rt, code, 67_108_864, area, 1, 6)?;
-    move_case(rt, code, 67_108_864, area, 0, 0)
-}
-
-// A checkpoint of the cipher has this number of bytes for its words.
-fn write_cases(rt: &impl Print, code: u32, area: usize, tables: usize) -> io::Result<()>
-    requires { (1 ≤ area) × (area ≤ 2048) × (1 ≤ tables) × (tables ≤ 8192) }
-{
-    write_case(rt, code, 67_108_865, area - 1, 10, 4)?;
-    write_case(rt, code, 67_108_865, area + 1, tables + 5, 4)?;
-    write_case(rt, code, 67_108_865, area, 10, 5)?;
-    write_case(rt, code, u64::MAX, area, tables + 5, 5)?;
-    write_case(rt, code, 0, area, 0, 8)?;
-    write_case(rt, code, 0, area, tables + 1, 8)?;
-    write_case(rt, code, 67_108_864, area, tables + 4, 8)
-}
-
-fn recover_cases(rt: &impl Print, code: u32, area: usize, key: usize) -> io::Result<()>
-    requires { (1 ≤ area) × (area ≤ 2048) × (1 ≤ key) × (key ≤ 32) }
-{
-    recover_case(rt, code, 67_108_865, area - 1, key - 1, key - 1, 4)?;
-    recover_case(rt, code, 67_108_865, area + 1, key, key, 4)?;
-    recover_case(rt, code, 67_108_865, area, key - 1, key - 1, 5)?;
-    recover_case(rt, code, u64::MAX, area, key, key, 5)?;
-    recover_case(rt, code, 77, area, key - 1, 0, 2)?;
-    recover_case(rt, code, 77, area, key + 1, key, 2)?;
-    recover_case(rt, code, 77, area, key, 0, 3)?;
-    recover_case(rt, code, 77, area, key, key + 1, 3)?;
-    recover_case(rt, code, 77, area, key, key, 12)?;
-    recover_case(rt, code, 0, area, key, key, 12)
-}
-
-// A checkpoint of the cipher has this number of bytes for its words.
-fn load_cases(rt: &impl Print, code: u8, area: usize, tables: usize) -> io::Result<()>
-    requires { (1 ≤ area) × (area ≤ 2048) × (1 ≤ tables) × (tables ≤ 8192) }
-{
-    load_case(rt, code, b"\x00", 0, area - 1, 9)?;
-    load_case(rt, code, b"", 1, area - 1, 4)?;
-    load_case(rt, code, b"\x80\x80\x80\x80", 5, area + 1, 4)?;
-    load_case(rt, code, b"\x00", 2, area, 11)?;
-    load_case(rt, code, b"\x00", tables + 1, area, 11)?;
-    load_case(rt, code, b"\x83\x40", tables + 4, area, 11)?;
-    load_case(rt, code, b"\x80\x80\x80\x20", tables + 4, area, 11)?;
-    load_case(rt, code, b"\x00", tables + 2, area, 12)?;
-    load_case(rt, code, b"\xac\x02", tables + 3, area, 12)
-}
-
-fn load_position_cases(rt: &impl Print, code: u8, area: usize, tables: usize) -> io::Result<()>
-    requires { (1 ≤ area) × (area ≤ 2048) × (1 ≤ tables) × (tables ≤ 8192) }
-{
-    load_case(rt, code, b"\x81\x80\x80\x80\x00", tables + 6, area, 10)?;
-    load_case(rt, code, b"\xff\xff\xff\xff", 5, area, 10)?;
-    load_case(rt, code, b"", 1, area, 9)?;
-    load_case(rt, code, b"\x80", 2, area, 9)?;
-    load_case(rt, code, b"\x80\x80\x80", 4, area, 9)?;
-    load_case(rt, code, b"\x80\x00", tables + 3, area, 10)?;
-    load_case(rt, code, b"\xff\xff\xff\x00", 10, area, 10)?;
-    load_case(rt, code, b"\x81\x80\x80\x20", 5, area, 5)?;
-    load_case(rt, code, b"\xff\xff\xff\x7f", tables + 5, area, 5)
-}
-
-// The cipher's own refusals, with its code as a byte, the length of its key and IV, the words of its area and the bytes of those words.
-pub fn of_cipher(
-    rt: &impl Print,
-    byte: u8,
-    key: usize,
-    area: usize,
-    tables: usize,
-) -> io::Result<()>
-    requires { (1 ≤ key) × (key ≤ 32) × (1 ≤ area) × (area ≤ 2048) × (1 ≤ tables) × (tables ≤ 8192) }
-{
-    let code = wide(byte);
-    set_up_cases(rt, code, key, area)?;
-    cipher_cases(rt, code, area)?;
-    move_cases(rt, code, area)?;
-    write_cases(rt, code, area, tables)?;
-    recover_cases(rt, code, area, key)?;
-    load_cases(rt, byte, area, tables)?;
-    load_position_cases(rt, byte, area, tables)?;
-    spent_case(rt, code, 67_108_865, 5)?;
-    spent_case(rt, code, u64::MAX, 5)
+// The cipher's own refusals.
+pub fn of_cipher(rt: &(impl Print + AllocGlobal), cipher: Cipher) -> io::Result<()> {
+    set_up_cases(rt, cipher)?;
+    cipher_cases(rt, cipher)?;
+    move_cases(rt, cipher)?;
+    write_cases(rt, cipher)?;
+    recover_cases(rt, cipher)?;
+    load_cases(rt, cipher)?;
+    load_position_cases(rt, cipher)?;
+    let n = cipher.area_words();
+    refuses(
+        rt,
+        cipher.code(),
+        &[
+            (Call::Spent(OVER), n, Refusal::BadPosition),
+            (Call::Spent(u64::MAX), n, Refusal::BadPosition),
+        ],
+    )
 }

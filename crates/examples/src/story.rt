@@ -1,539 +1,400 @@
 // What a box does with one cipher: set up, cipher, write and load checkpoints, recover, move, up to the stream limit and back.
-ghost use Rattle.std.specs.Prelude.{◌≤◌};
-
 use crate::compare::{
-    ANY, MARK, accepted, are_words, change, fill_bytes, fill_words, has_bytes, has_words, head_on,
-    is_head, least, same_words, wide,
+    ANY, MARK, STRIDE, accepted, are_words, bytes, change, fill, head_on, is_filled, words,
 };
 use crate::line::report;
-use crate::refusals::{STRIDE, refuses_load, refuses_recover, refuses_write};
-use check::same;
+use crate::refusals::{refuses_load, refuses_recover, refuses_write};
+use cipher::Cipher;
 use engine::Head;
-use engine::answers::LoadAnswer;
+use engine::answers::{Keys, Next};
+use refusal::Refusal;
 use std::io;
 
-// The bytes of a key, and of an IV.
-pub fn key_bytes(code: u32) -> usize
-    ensures { result ≤ 32 }
-{
-    if code == 1 { 16 } else { 32 }
-}
-
-// The words of an area.
-pub fn area_words(code: u32) -> usize
-    ensures { result ≤ 2048 }
-{
-    if code == 1 { 1024 } else { 2048 }
-}
-
-// The bytes of a checkpoint with these bytes of a position.
-fn checkpoint_bytes(code: u32, position: &[u8]) -> usize
-    ensures { (1 ≤ result) × (result ≤ 8197) }
-{
-    1 + least(position.len(), 4) + 4 * area_words(code)
-}
-
 // Whether set up by a head is accepted with the story's key and IV, in which no two bytes are alike, over other words.
-pub fn sets_up(head: Head, code: u32, area: &mut [u32], first: u32) -> bool {
-    let mut key = [0u8; 32];
-    let mut iv = [0u8; 32];
-    let n = key_bytes(code);
-    fill_bytes(&mut key, 1, 1);
-    fill_bytes(&mut iv, 33, 1);
-    fill_words(area, first, STRIDE);
-    let done = head.set_up(code, &key[..n], &iv[..n], area);
-    accepted(done, Head::at(code, 0, 0, 0))
+pub fn sets_up(
+    rt: &impl AllocGlobal,
+    head: Head,
+    cipher: Cipher,
+    area: &mut [u32],
+    first: u32,
+) -> io::Result<bool> {
+    let key = bytes(rt, cipher.key_bytes(), 1, 1)?;
+    let iv = bytes(rt, cipher.iv_bytes(), 33, 1)?;
+    fill(area, first, STRIDE);
+    let code = cipher.code();
+    Ok(accepted(head.set_up(code, &key, &iv, area), Head::at(code, 0, 0, 0)))
 }
 
 // Whether bytes are ciphered from one position to another, and the mark goes with them.
 fn ciphers(code: u32, from: u64, to: u64, area: &mut [u32], bytes: &mut [u8]) -> bool {
-    let done = head_on(code, from, from, area).cipher(area, bytes);
-    accepted(done, head_on(code, to, to, area))
+    let next = head_on(code, from, from, area).cipher(area, bytes);
+    accepted(next, head_on(code, to, to, area))
 }
 
 // Whether an area is moved from one position to another, and the mark stays.
 fn moves(code: u32, from: u64, distance: i64, to: u64, area: &mut [u32]) -> bool {
-    let done = head_on(code, from, MARK, area).move_by(area, distance);
-    accepted(done, head_on(code, to, MARK, area))
-}
-
-// Two areas that hold different words are set up, one by a fresh head.
-fn begins(rt: &impl Print, code: u32, area: &mut [u32], other: &mut [u32]) -> io::Result<()> {
-    let a = sets_up(Head::fresh(), code, area, 7);
-    let b = sets_up(Head::at(3, 67_108_865, ANY, MARK), code, other, 9);
-    let ok = a & b & !has_words(area, 7, STRIDE);
-    report(rt, code, 0, "set up", ok & same_words(area, other))
-}
-
-// Moves back to 0, to the tables that set up gives.
-fn goes_back(
-    rt: &impl Print,
-    code: u32,
-    from: u64,
-    distance: i64,
-    area: &mut [u32],
-    other: &mut [u32],
-) -> io::Result<()> {
-    let a = moves(code, from, distance, 0, area);
-    let b = sets_up(Head::at(code, from, ANY, MARK), code, other, 9);
-    report(
-        rt,
-        code,
-        from,
-        "move back to 0",
-        a & b & same_words(area, other),
-    )
-}
-
-// Enciphers bytes from 0 on; the other area is moved by as many.
-fn comes_to(
-    rt: &impl Print,
-    code: u32,
-    to: u64,
-    distance: i64,
-    area: &mut [u32],
-    other: &mut [u32],
-    bytes: &mut [u8],
-) -> io::Result<()> {
-    fill_bytes(bytes, 5, 3);
-    let a = ciphers(code, 0, to, area, bytes);
-    let b = moves(code, 0, distance, to, other);
-    let ok = a & b & !has_bytes(bytes, 5, 3);
-    report(
-        rt,
-        code,
-        to,
-        "encipher and move",
-        ok & same_words(area, other),
-    )
+    let next = head_on(code, from, MARK, area).move_by(area, distance);
+    accepted(next, head_on(code, to, MARK, area))
 }
 
 // Ciphers bytes in parts of 1 to 13 bytes, and gives the next head.
-fn cipher_in_parts(head: Head, area: &mut [u32], bytes: &mut [u8]) -> Head {
-    let mut next = head;
-    let mut at = 0;
-    while at < bytes.len() {
-        let end = at + 1 + least(at % 13, bytes.len() - at - 1);
-        let done = next.cipher(area, &mut bytes[at..end]);
-        let h = done.head;
-        next = h;
-        at = end;
+fn cipher_in_parts(mut head: Head, area: &mut [u32], bytes: &mut [u8]) -> Head {
+    let total = bytes.len();
+    let mut rest = &mut *bytes;
+    while !rest.is_empty() {
+        let at = total.saturating_sub(rest.len());
+        let n = rest.len().min(1 + at % 13);
+        let (part, later) = rest.split_at_mut(n);
+        head = head.cipher(area, part).head;
+        rest = later;
     }
-    next
-}
-
-// Deciphers in parts what was enciphered at once; the other area is moved by as many.
-fn comes_again(
-    rt: &impl Print,
-    code: u32,
-    to: u64,
-    distance: i64,
-    area: &mut [u32],
-    other: &mut [u32],
-    bytes: &mut [u8],
-) -> io::Result<()> {
-    let last = cipher_in_parts(Head::at(code, 0, 0, 0), area, bytes);
-    let a = is_head(last, head_on(code, to, to, area)) & has_bytes(bytes, 5, 3);
-    let b = moves(code, 0, distance, to, other);
-    report(
-        rt,
-        code,
-        to,
-        "decipher in parts",
-        a & b & same_words(area, other),
-    )
-}
-
-// Whether a string is the bytes of a position and the words of the tables, and nothing else.
-fn is_position_and_words(string: &[u8], position: &[u8], area: &[u32]) -> bool {
-    let n = least(position.len(), string.len());
-    same(&string[..n], position) & are_words(&string[n..], area)
+    head
 }
 
 // Whether a string is the checkpoint of a code, the bytes of a position and the words of the tables.
 fn is_checkpoint(string: &[u8], code: u32, position: &[u8], area: &[u32]) -> bool {
-    if string.len() == 0 {
+    let Some((first, rest)) = string.split_first() else {
         return false;
+    };
+    match rest.strip_prefix(position) {
+        Some(tables) => u32::from(*first) == code && are_words(tables, area),
+        None => false,
     }
-    (wide(string[0]) == code) & is_position_and_words(&string[1..], position, area)
 }
 
-// Writes a checkpoint and gives its length; later bytes stay.
-fn writes(
-    rt: &impl Print,
-    code: u32,
-    at: u64,
-    position: &[u8],
-    area: &[u32],
-    lent: &mut [u8],
-) -> io::Result<usize> {
-    fill_bytes(lent, 165, 0);
-    let head = head_on(code, at, MARK, area);
-    let done = head.write(area, lent);
-    let kept = done.head;
-    let answer = done.answer;
-    let length = answer.length;
-    let n = least(length, lent.len());
-    let given = (answer.refusal == 0) & (length == n) & is_head(kept, head);
-    let written = is_checkpoint(&lent[..n], code, position, area);
-    report(
-        rt,
-        code,
-        at,
-        "write",
-        given & written & has_bytes(&lent[n..], 165, 0),
-    )?;
-    Ok(n)
-}
-
-// Whether eight words are n words of the key or the IV that begins with this word, and then 0.
-fn eight_are(words: &[u32], n: usize, first: u32) -> bool {
-    let m = least(n, words.len());
-    has_words(&words[..m], first, 0x04040404) & has_words(&words[m..], 0, 0)
+// Whether eight words are the words of a key or an IV of so many bytes that begins with this word, and then 0.
+fn eight_are(words: &[u32; 8], bytes: usize, first: u32) -> bool {
+    match words.split_at_checked(bytes / 4) {
+        Some((given, rest)) => is_filled(given, first, 0x04040404) && is_filled(rest, 0, 0),
+        None => false,
+    }
 }
 
 // Whether load gave the story's key and IV.
-fn are_found(code: u32, answer: LoadAnswer) -> bool {
-    let key = answer.key;
-    let iv = answer.iv;
-    let n = key_bytes(code) / 4;
-    eight_are(&key, n, 0x04030201) & eight_are(&iv, n, 0x24232221)
+fn are_found(cipher: Cipher, keys: &Keys) -> bool {
+    eight_are(&keys.key, cipher.key_bytes(), 0x04030201)
+        && eight_are(&keys.iv, cipher.iv_bytes(), 0x24232221)
 }
 
-// Whether load gives a head whose mark is its position, and the tables, the key and the IV that the area came from.
-fn loads(code: u32, at: u64, string: &[u8], area: &[u32], other: &mut [u32]) -> bool {
-    fill_words(other, 9, STRIDE);
-    let done = Head::at(3, 67_108_865, ANY, MARK).load(other, string);
-    let head = done.head;
-    let answer = done.answer;
-    let found = (answer.refusal == 0) & are_found(code, answer);
-    found & same_words(other, area) & is_head(head, head_on(code, at, at, area))
-}
-
-// Writes a checkpoint, loads it into another area, and gives its length.
-fn writes_and_loads(
-    rt: &impl Print,
-    code: u32,
-    at: u64,
-    position: &[u8],
-    area: &[u32],
-    other: &mut [u32],
-    lent: &mut [u8],
-) -> io::Result<usize> {
-    let n = least(writes(rt, code, at, position, area, lent)?, lent.len());
-    report(
-        rt,
-        code,
-        at,
-        "load",
-        loads(code, at, &lent[..n], area, other),
-    )?;
-    Ok(n)
-}
-
-// Write gets 8 where this many bytes are lent, one too few.
-fn one_too_few(rt: &impl Print, code: u32, at: u64, bytes: usize, area: &[u32]) -> io::Result<()>
-    requires { bytes ≤ 8196 }
-{
-    let mut lent = [0u8; 8196];
-    let ok = refuses_write(head_on(code, at, MARK, area), area, &mut lent[..bytes], 8);
-    report(rt, code, at, "write 8 one byte too few", ok)
-}
-
-// A checkpoint written where just as many bytes are lent as it has, and not where one fewer is, and loaded.
-fn checkpoint(
-    rt: &impl Print,
-    code: u32,
-    at: u64,
-    position: &[u8],
-    area: &[u32],
-    other: &mut [u32],
-) -> io::Result<()> {
-    let mut lent = [0u8; 8197];
-    let n = checkpoint_bytes(code, position);
-    one_too_few(rt, code, at, n - 1, area)?;
-    writes_and_loads(rt, code, at, position, area, other, &mut lent[..n])?;
-    Ok(())
-}
-
-// Moves to another position, and writes and loads the checkpoint there.
-fn checkpoint_on(
-    rt: &impl Print,
-    code: u32,
+// A place where a checkpoint is written: the position from which the box moves there, the distance, the position, and its bytes in the checkpoint.
+#[derive(Clone, Copy)]
+struct Stop<'a> {
     from: u64,
     distance: i64,
     to: u64,
-    position: &[u8],
-    area: &mut [u32],
-    other: &mut [u32],
-) -> io::Result<()> {
-    let ok = moves(code, from, distance, to, area);
-    report(rt, code, to, "move", ok)?;
-    checkpoint(rt, code, to, position, area, other)
+    position: &'a [u8],
 }
 
-// Load of the checkpoint at 8195 gets 12 where this byte is changed; the byte is then put back.
-fn load_changed(
-    rt: &impl Print,
+// Past each position where the groups of a position grow in number.
+const GROUPS: [Stop<'static>; 6] = [
+    Stop {
+        from: 0,
+        distance: 127,
+        to: 127,
+        position: b"\x7f",
+    },
+    Stop {
+        from: 127,
+        distance: 1,
+        to: 128,
+        position: b"\x80\x01",
+    },
+    Stop {
+        from: 128,
+        distance: 16_255,
+        to: 16_383,
+        position: b"\xff\x7f",
+    },
+    Stop {
+        from: 16_383,
+        distance: 1,
+        to: 16_384,
+        position: b"\x80\x80\x01",
+    },
+    Stop {
+        from: 16_384,
+        distance: 2_080_767,
+        to: 2_097_151,
+        position: b"\xff\xff\x7f",
+    },
+    Stop {
+        from: 2_097_151,
+        distance: 1,
+        to: 2_097_152,
+        position: b"\x80\x80\x80\x01",
+    },
+];
+
+// A cipher, the box's area, and another of the same length.
+#[derive(Drop)]
+struct Story {
+    cipher: Cipher,
     code: u32,
-    case: &str,
-    at: usize,
-    byte: u8,
-    string: &mut [u8],
-    other: &mut [u32],
-) -> io::Result<()> {
-    let was = change(string, at, byte);
-    let ok = refuses_load(string, other, 12);
-    change(string, at, was);
-    report(rt, code, 8195, case, ok & (was != byte))
+    area: Vec<u32>,
+    other: Vec<u32>,
 }
 
-// Loads of the checkpoint at 8195 with a byte of its tables changed, or its position into that of another word.
-fn loads_changed(
-    rt: &impl Print,
-    code: u32,
-    string: &mut [u8],
-    other: &mut [u32],
-) -> io::Result<()> {
-    let last = string.len() - least(1, string.len());
-    load_changed(rt, code, "load 12 first word changed", 3, 0, string, other)?;
-    load_changed(
-        rt,
-        code,
-        "load 12 last word changed",
-        last,
-        0,
-        string,
-        other,
-    )?;
-    load_changed(rt, code, "load 12 as at 8192", 1, 0x80, string, other)?;
-    load_changed(rt, code, "load 12 as at 8197", 1, 0x85, string, other)
-}
+impl Story {
+    // The head at a position, with the area's word there and a mark that is made up.
+    fn head(&self, position: u64) -> Head {
+        head_on(self.code, position, MARK, &self.area)
+    }
 
-// Load of the checkpoint at 8195 at another position of the same word, of which the lowest group is given.
-fn load_in_word(
-    rt: &impl Print,
-    code: u32,
-    at: u64,
-    group: u8,
-    string: &mut [u8],
-    area: &[u32],
-    other: &mut [u32],
-) -> io::Result<()> {
-    let was = change(string, 1, group);
-    let ok = loads(code, at, string, area, other);
-    report(rt, code, at, "load in the same word", ok & (was != group))
-}
+    // Whether both areas are the same.
+    fn is_even(&self) -> bool {
+        self.area == self.other
+    }
 
-// The checkpoint at 8195, which lies inside a word, past a turn of both tables of either cipher.
-fn checkpoint_in_word(
-    rt: &impl Print,
-    code: u32,
-    area: &[u32],
-    other: &mut [u32],
-    lent: &mut [u8],
-) -> io::Result<()> {
-    let n = writes_and_loads(rt, code, 8195, b"\x83\x40", area, other, lent)?;
-    let m = least(n, lent.len());
-    loads_changed(rt, code, &mut lent[..m], other)?;
-    load_in_word(rt, code, 8193, 0x81, &mut lent[..m], area, other)?;
-    load_in_word(rt, code, 8196, 0x84, &mut lent[..m], area, other)
-}
+    fn report(&self, rt: &impl Print, position: u64, case: &str, ok: bool) -> io::Result<()> {
+        report(rt, self.code, position, case, ok)
+    }
 
-// From 8195 on to 8972: enciphered with the tables, and deciphered with the tables that were loaded.
-fn goes_on(
-    rt: &impl Print,
-    code: u32,
-    area: &mut [u32],
-    other: &mut [u32],
-    bytes: &mut [u8],
-) -> io::Result<()> {
-    fill_bytes(bytes, 11, 7);
-    let a = ciphers(code, 8195, 8972, area, bytes) & !has_bytes(bytes, 11, 7);
-    let b = ciphers(code, 8195, 8972, other, bytes) & has_bytes(bytes, 11, 7);
-    let ok = a & b & same_words(area, other);
-    report(rt, code, 8972, "encipher, and decipher after a load", ok)
-}
+    // Two areas that hold different words are set up, one by a fresh head.
+    fn begins(&mut self, rt: &(impl Print + AllocGlobal)) -> io::Result<()> {
+        let used = Head::at(3, 67_108_865, ANY, MARK);
+        let a = sets_up(rt, Head::fresh(), self.cipher, &mut self.area, 7)?;
+        let b = sets_up(rt, used, self.cipher, &mut self.other, 9)?;
+        let ok = a && b && !is_filled(&self.area, 7, STRIDE) && self.is_even();
+        self.report(rt, 0, "set up", ok)
+    }
 
-// Recovers nothing at a position of another word, though the head's word is the one that the area has there.
-fn recovers_nothing(
-    rt: &impl Print,
-    code: u32,
-    later: u64,
-    area: &[u32],
-    key: &mut [u8],
-    iv: &mut [u8],
-) -> io::Result<()> {
-    let none = refuses_recover(head_on(code, later, MARK, area), area, key, iv, 12);
-    report(rt, code, later, "recover 12 in another word", none)
-}
+    // Moves back to 0, to the tables that set up gives.
+    fn goes_back(
+        &mut self,
+        rt: &(impl Print + AllocGlobal),
+        from: u64,
+        distance: i64,
+    ) -> io::Result<()> {
+        let used = Head::at(self.code, from, ANY, MARK);
+        let a = moves(self.code, from, distance, 0, &mut self.area);
+        let b = sets_up(rt, used, self.cipher, &mut self.other, 9)?;
+        self.report(rt, from, "move back to 0", a && b && self.is_even())
+    }
 
-// Recovers the key and the IV into buffers.
-fn recovers_both(
-    rt: &impl Print,
-    code: u32,
-    at: u64,
-    area: &[u32],
-    key: &mut [u8],
-    iv: &mut [u8],
-) -> io::Result<()> {
-    let head = head_on(code, at, MARK, area);
-    let done = head.recover(area, key, iv);
-    let found = has_bytes(key, 1, 1) & has_bytes(iv, 33, 1);
-    report(rt, code, at, "recover", accepted(done, head) & found)
-}
+    // Enciphers bytes from 0 on; the other area is moved by as many.
+    fn comes_to(
+        &mut self,
+        rt: &impl Print,
+        to: u64,
+        distance: i64,
+        bytes: &mut [u8],
+    ) -> io::Result<()> {
+        fill(bytes, 5, 3);
+        let a = ciphers(self.code, 0, to, &mut self.area, bytes);
+        let b = moves(self.code, 0, distance, to, &mut self.other);
+        let ok = a && b && !is_filled(bytes, 5, 3) && self.is_even();
+        self.report(rt, to, "encipher and move", ok)
+    }
 
-// Recovers the key and the IV into buffers, and nothing at a position of another word.
-fn recovers_into(
-    rt: &impl Print,
-    code: u32,
-    at: u64,
-    later: u64,
-    area: &[u32],
-    key: &mut [u8],
-    iv: &mut [u8],
-) -> io::Result<()> {
-    recovers_nothing(rt, code, later, area, key, iv)?;
-    recovers_both(rt, code, at, area, key, iv)
-}
+    // Deciphers in parts what was enciphered at once; the other area is moved by as many.
+    fn comes_again(
+        &mut self,
+        rt: &impl Print,
+        to: u64,
+        distance: i64,
+        bytes: &mut [u8],
+    ) -> io::Result<()> {
+        let last = cipher_in_parts(Head::at(self.code, 0, 0, 0), &mut self.area, bytes);
+        let a = last == head_on(self.code, to, to, &self.area) && is_filled(bytes, 5, 3);
+        let b = moves(self.code, 0, distance, to, &mut self.other);
+        self.report(rt, to, "decipher in parts", a && b && self.is_even())
+    }
 
-// Recovers the key and the IV.
-fn recovers(rt: &impl Print, code: u32, at: u64, later: u64, area: &[u32]) -> io::Result<()> {
-    let mut key = [0u8; 32];
-    let mut iv = [0u8; 32];
-    let n = key_bytes(code);
-    recovers_into(rt, code, at, later, area, &mut key[..n], &mut iv[..n])
-}
+    // Writes a checkpoint where so many bytes are lent, and gives it; later bytes stay.
+    fn writes(
+        &self,
+        rt: &(impl Print + AllocGlobal),
+        at: u64,
+        position: &[u8],
+        room: usize,
+    ) -> io::Result<Vec<u8>> {
+        let mut lent = bytes(rt, room, 165, 0)?;
+        let head = self.head(at);
+        let done = head.write(&self.area, &mut lent);
+        let n = done.answer.unwrap_or(0);
+        let ok = match lent.split_at_checked(n) {
+            Some((string, later)) => {
+                is_checkpoint(string, self.code, position, &self.area) && is_filled(later, 165, 0)
+            }
+            None => false,
+        };
+        let given = done.answer.is_ok() && done.head == head;
+        self.report(rt, at, "write", given && ok)?;
+        lent.truncate(n);
+        Ok(lent)
+    }
 
-// The last four bytes: at once in one area, and in the other a move by three and one byte, which is as the last of the four.
-fn last_bytes(rt: &impl Print, code: u32, area: &mut [u32], other: &mut [u32]) -> io::Result<()> {
-    let mut four = [0u8; 4];
-    let mut one = [0u8; 1];
-    let a = ciphers(code, 67_108_860, 67_108_864, area, &mut four);
-    let b = moves(code, 67_108_860, 3, 67_108_863, other);
-    let c = ciphers(code, 67_108_863, 67_108_864, other, &mut one);
-    let ok = a & b & c & (one[0] == four[3]) & same_words(area, other);
-    report(
-        rt,
-        code,
-        67_108_863,
-        "cipher one byte, as the last of four",
-        ok,
-    )
-}
+    // Whether load gives a head whose mark is its position, and the tables, the key and the IV that the area came from.
+    fn loads(&mut self, at: u64, string: &[u8]) -> bool {
+        fill(&mut self.other, 9, STRIDE);
+        let next = Head::at(3, 67_108_865, ANY, MARK).load(&mut self.other, string);
+        let found = match next.answer {
+            Ok(keys) => are_found(self.cipher, &keys),
+            Err(_) => false,
+        };
+        found && self.is_even() && next.head == head_on(self.code, at, at, &self.area)
+    }
 
-// Set up, to 3 and back.
-fn first_steps(rt: &impl Print, code: u32, area: &mut [u32], other: &mut [u32]) -> io::Result<()> {
-    let mut three = [0u8; 3];
-    begins(rt, code, area, other)?;
-    comes_to(rt, code, 3, 3, area, other, &mut three)?;
-    goes_back(rt, code, 3, -3, area, other)
-}
+    // Writes a checkpoint where so many bytes are lent, loads it into the other area, and gives it.
+    fn writes_and_loads(
+        &mut self,
+        rt: &(impl Print + AllocGlobal),
+        at: u64,
+        position: &[u8],
+        room: usize,
+    ) -> io::Result<Vec<u8>> {
+        let string = self.writes(rt, at, position, room)?;
+        let ok = self.loads(at, &string);
+        self.report(rt, at, "load", ok)?;
+        Ok(string)
+    }
 
-// To 8195, and from a checkpoint on to 8972.
-fn forward(
-    rt: &impl Print,
-    code: u32,
-    area: &mut [u32],
-    other: &mut [u32],
-    text: &mut [u8],
-) -> io::Result<()> {
-    let mut lent = [0u8; 8200];
-    let mut more = [0u8; 777];
-    comes_to(rt, code, 8195, 8195, area, other, text)?;
-    checkpoint_in_word(rt, code, area, other, &mut lent)?;
-    goes_on(rt, code, area, other, &mut more)
-}
+    // A checkpoint written where just as many bytes are lent as it has, and not where one fewer is, and loaded.
+    fn checkpoint(
+        &mut self,
+        rt: &(impl Print + AllocGlobal),
+        at: u64,
+        position: &[u8],
+    ) -> io::Result<()> {
+        let tables = 4 * self.cipher.area_words();
+        let room = tables + 1 + position.len().min(4);
+        let head = self.head(at);
+        let ok = refuses_write(rt, head, &self.area, room - 1, Refusal::LittleRoom)?;
+        self.report(rt, at, "write 8 one byte too few", ok)?;
+        self.writes_and_loads(rt, at, position, room)?;
+        Ok(())
+    }
 
-// From 8972 back to 0.
-fn back(rt: &impl Print, code: u32, area: &mut [u32], other: &mut [u32]) -> io::Result<()> {
-    recovers(rt, code, 8972, 8976, area)?;
-    goes_back(rt, code, 8972, -8972, area, other)?;
-    recovers(rt, code, 0, 1, area)?;
-    checkpoint(rt, code, 0, b"\x00", area, other)
-}
+    // Moves to another position, and writes and loads the checkpoint there.
+    fn checkpoint_on(&mut self, rt: &(impl Print + AllocGlobal), stop: Stop<'_>) -> io::Result<()> {
+        let ok = moves(self.code, stop.from, stop.distance, stop.to, &mut self.area);
+        self.report(rt, stop.to, "move", ok)?;
+        self.checkpoint(rt, stop.to, stop.position)
+    }
 
-// From 0 to 128, where a position has two groups.
-fn two_groups(rt: &impl Print, code: u32, area: &mut [u32], other: &mut [u32]) -> io::Result<()> {
-    checkpoint_on(rt, code, 0, 127, 127, b"\x7f", area, other)?;
-    checkpoint_on(rt, code, 127, 1, 128, b"\x80\x01", area, other)
-}
+    // Load of the checkpoint at 8195 is refused where this byte is changed; the byte is then put back.
+    fn load_changed(
+        &mut self,
+        rt: &impl Print,
+        case: &str,
+        at: usize,
+        byte: u8,
+        string: &mut [u8],
+    ) -> io::Result<()> {
+        let was = change(string, at, byte);
+        let ok = refuses_load(string, &mut self.other, Refusal::NoKey);
+        change(string, at, was);
+        self.report(rt, 8195, case, ok && was != byte)
+    }
 
-// From 128 to 16,384, where a position has three groups.
-fn three_groups(rt: &impl Print, code: u32, area: &mut [u32], other: &mut [u32]) -> io::Result<()> {
-    checkpoint_on(rt, code, 128, 16_255, 16_383, b"\xff\x7f", area, other)?;
-    checkpoint_on(rt, code, 16_383, 1, 16_384, b"\x80\x80\x01", area, other)
-}
+    // The checkpoint at 8195, which lies inside a word, past a turn of both tables of either cipher: loaded with a byte of its tables changed, with its
+    // position changed into that of another word, and into another position of the same word, of which the lowest group is given.
+    fn checkpoint_in_word(&mut self, rt: &(impl Print + AllocGlobal)) -> io::Result<()> {
+        let mut string = self.writes_and_loads(rt, 8195, b"\x83\x40", 8200)?;
+        let last = string.len().saturating_sub(1);
+        for (case, at, byte) in [
+            ("load 12 first word changed", 3, 0),
+            ("load 12 last word changed", last, 0),
+            ("load 12 as at 8192", 1, 0x80),
+            ("load 12 as at 8197", 1, 0x85),
+        ] {
+            self.load_changed(rt, case, at, byte, &mut string)?;
+        }
+        for (at, group) in [(8193, 0x81), (8196, 0x84)] {
+            let was = change(&mut string, 1, group);
+            let ok = self.loads(at, &string);
+            self.report(rt, at, "load in the same word", ok && was != group)?;
+        }
+        Ok(())
+    }
 
-// From 16,384 to 2,097,152, where a position has four groups.
-fn four_groups(rt: &impl Print, code: u32, area: &mut [u32], other: &mut [u32]) -> io::Result<()> {
-    checkpoint_on(
-        rt,
-        code,
-        16_384,
-        2_080_767,
-        2_097_151,
-        b"\xff\xff\x7f",
-        area,
-        other,
-    )?;
-    checkpoint_on(
-        rt,
-        code,
-        2_097_151,
-        1,
-        2_097_152,
-        b"\x80\x80\x80\x01",
-        area,
-        other,
-    )
-}
+    // From 8195 on to 8972: enciphered with the tables, and deciphered with the tables that were loaded.
+    fn goes_on(&mut self, rt: &(impl Print + AllocGlobal)) -> io::Result<()> {
+        let mut text = bytes(rt, 777, 11, 7)?;
+        let a = ciphers(self.code, 8195, 8972, &mut self.area, &mut text);
+        let changed = !is_filled(&text, 11, 7);
+        let b = ciphers(self.code, 8195, 8972, &mut self.other, &mut text);
+        let ok = a && changed && b && is_filled(&text, 11, 7) && self.is_even();
+        self.report(rt, 8972, "encipher, and decipher after a load", ok)
+    }
 
-// From 0 past each position where the groups grow in number, and back to 0.
-fn groups(rt: &impl Print, code: u32, area: &mut [u32], other: &mut [u32]) -> io::Result<()> {
-    two_groups(rt, code, area, other)?;
-    three_groups(rt, code, area, other)?;
-    four_groups(rt, code, area, other)?;
-    goes_back(rt, code, 2_097_152, -2_097_152, area, other)
-}
+    // Recovers nothing at a position of another word, though the head's word is the one that the area has there; and then the key and the IV.
+    fn recovers(&self, rt: &(impl Print + AllocGlobal), at: u64, later: u64) -> io::Result<()> {
+        let (m, n) = (self.cipher.key_bytes(), self.cipher.iv_bytes());
+        let none = refuses_recover(rt, self.head(later), &self.area, m, n, Refusal::NoKey)?;
+        self.report(rt, later, "recover 12 in another word", none)?;
+        let mut key = bytes(rt, m, 0, 0)?;
+        let mut iv = bytes(rt, n, 0, 0)?;
+        let head = self.head(at);
+        let next = head.recover(&self.area, &mut key, &mut iv);
+        let found = is_filled(&key, 1, 1) && is_filled(&iv, 33, 1);
+        self.report(rt, at, "recover", accepted(next, head) && found)
+    }
 
-// To 3, then past each position where the groups grow in number, and each time back to 0.
-fn early(rt: &impl Print, code: u32, area: &mut [u32], other: &mut [u32]) -> io::Result<()> {
-    first_steps(rt, code, area, other)?;
-    groups(rt, code, area, other)
-}
+    // The last four bytes: at once in one area, and in the other a move by three and one byte, which is as the last of the four.
+    fn last_bytes(&mut self, rt: &impl Print) -> io::Result<()> {
+        let mut four = [0u8; 4];
+        let mut one = [0u8; 1];
+        let a = ciphers(self.code, 67_108_860, 67_108_864, &mut self.area, &mut four);
+        let b = moves(self.code, 67_108_860, 3, 67_108_863, &mut self.other);
+        let c = ciphers(self.code, 67_108_863, 67_108_864, &mut self.other, &mut one);
+        let ok = a && b && c && one[0] == four[3] && self.is_even();
+        self.report(rt, 67_108_863, "cipher one byte, as the last of four", ok)
+    }
 
-// From 8195 to the stream limit, and all the way back.
-fn limit(rt: &impl Print, code: u32, area: &mut [u32], other: &mut [u32]) -> io::Result<()> {
-    checkpoint_on(
-        rt,
-        code,
-        8195,
-        67_100_665,
-        67_108_860,
-        b"\xfc\xff\xff\x1f",
-        area,
-        other,
-    )?;
-    last_bytes(rt, code, area, other)?;
-    checkpoint(rt, code, 67_108_864, b"\x80\x80\x80\x20", area, other)?;
-    goes_back(rt, code, 67_108_864, -67_108_864, area, other)
-}
+    // To 3, then past each position where the groups grow in number, and each time back to 0.
+    fn early(&mut self, rt: &(impl Print + AllocGlobal)) -> io::Result<()> {
+        let mut three = [0u8; 3];
+        self.begins(rt)?;
+        self.comes_to(rt, 3, 3, &mut three)?;
+        self.goes_back(rt, 3, -3)?;
+        for stop in GROUPS {
+            self.checkpoint_on(rt, stop)?;
+        }
+        self.goes_back(rt, 2_097_152, -2_097_152)
+    }
 
-// The whole story.
-fn scenes(rt: &impl Print, code: u32, area: &mut [u32], other: &mut [u32]) -> io::Result<()> {
-    let mut text = [0u8; 8195];
-    early(rt, code, area, other)?;
-    forward(rt, code, area, other, &mut text)?;
-    back(rt, code, area, other)?;
-    comes_again(rt, code, 8195, 8195, area, other, &mut text)?;
-    limit(rt, code, area, other)
+    // To 8195, from a checkpoint on to 8972, and back to 0.
+    fn there_and_back(
+        &mut self,
+        rt: &(impl Print + AllocGlobal),
+        text: &mut [u8],
+    ) -> io::Result<()> {
+        self.comes_to(rt, 8195, 8195, text)?;
+        self.checkpoint_in_word(rt)?;
+        self.goes_on(rt)?;
+        self.recovers(rt, 8972, 8976)?;
+        self.goes_back(rt, 8972, -8972)?;
+        self.recovers(rt, 0, 1)?;
+        self.checkpoint(rt, 0, b"\x00")
+    }
+
+    // From 8195 to the stream limit, and all the way back.
+    fn limit(&mut self, rt: &(impl Print + AllocGlobal)) -> io::Result<()> {
+        let stop = Stop {
+            from: 8195,
+            distance: 67_100_665,
+            to: 67_108_860,
+            position: b"\xfc\xff\xff\x1f",
+        };
+        self.checkpoint_on(rt, stop)?;
+        self.last_bytes(rt)?;
+        self.checkpoint(rt, 67_108_864, b"\x80\x80\x80\x20")?;
+        self.goes_back(rt, 67_108_864, -67_108_864)
+    }
 }
 
 // The story of a cipher.
-pub fn of_cipher(rt: &impl Print, code: u32) -> io::Result<()> {
-    let mut area = [0u32; 2048];
-    let mut other = [0u32; 2048];
-    let n = area_words(code);
-    scenes(rt, code, &mut area[..n], &mut other[..n])
+pub fn of_cipher(rt: &(impl Print + AllocGlobal), cipher: Cipher) -> io::Result<()> {
+    let mut story = Story {
+        cipher,
+        code: cipher.code(),
+        area: words(rt, cipher.area_words(), 0, 0)?,
+        other: words(rt, cipher.area_words(), 0, 0)?,
+    };
+    let mut text = bytes(rt, 8195, 0, 0)?;
+    story.early(rt)?;
+    story.there_and_back(rt, &mut text)?;
+    story.comes_again(rt, 8195, 8195, &mut text)?;
+    story.limit(rt)
 }
