@@ -1,11 +1,17 @@
--- How an answer, the next head and the contents of area and lent bytes make the outcome that the definition of a call on the share account speaks of.
--- Those of the engine's calls with a share account are in the engine's Answers.
-use Rattle.std.specs.Prelude.{List, ℕ}
+-- For C: the struct of an answer; and how an answer, the caller's head and the contents of area and lent bytes make the outcome that the definition of
+-- a call on the share account speaks of.
+use Rattle.std.specs.Prelude.{List, ℕ, Result}
 use Rattle.laws.specs.Result.{Outcome}
+use Rattle.refusal.specs.declared.Refusal.{Refusal}
+use Rattle.refusal.specs.Numbers.{number_in}
 use Rattle.engine.specs.declared.Head.{Head}
 use Rattle.sharing.specs.declared.ShareAccount.{ShareAccount}
 use Rattle.sharing.specs.declared.ShareAnswer.{ShareAnswer}
 use Rattle.sharing.specs.Calls.{Opened, Drawn}
+
+-- the refusal by its number, and the next share account
+abbrev pub share_answer : Result (Unit {0}) Refusal → ShareAccount → ShareAnswer
+share_answer answer account = record { refusal = number_in answer; account = account }
 
 -- opening; its area is lent as `&`, which no call can change, so that `area` is what it held at entry
 abbrev pub opened : ShareAnswer → (head : Head) (area : List ℕ) → Outcome Opened

@@ -1,4 +1,4 @@
 pub mod Shares
 pub mod Calls
+pub mod Outcomes
 pub mod Answers
-pub mod Found

@@ -3,48 +3,31 @@
 // own and take none.
 #![tactic(auto)]
 
-ghost use Rattle.std.specs.Prelude.{◌≡◌, ◌+◌, ◌≤◌};
+ghost use Rattle.std.specs.Prelude.{◌≡◌, ◌+◌, ◌-◌, ◌≤◌, Err};
+ghost use Rattle.std.specs.Option.{SomeIff};
+ghost use Rattle.refusal.specs.declared.Refusal.TheVariants.{WrongSharing};
+ghost use Rattle.refusal.specs.Told.{told};
 ghost use Rattle.engine.specs.Calls as EngineCalls;
-ghost use Rattle.engine.specs.Answers as EngineAnswers;
+ghost use Rattle.engine.specs.Outcomes as EngineOutcomes;
 ghost use Rattle.conditions.specs.Conditions as Conditions;
 ghost use Rattle.sharing.specs.Shares as Shares;
 ghost use Rattle.sharing.specs.Calls as Calls;
+ghost use Rattle.sharing.specs.Outcomes as Outcomes;
 ghost use Rattle.sharing.specs.Answers as Answers;
-ghost use Rattle.sharing.specs.Found as Found;
 
+use cipher::Cipher;
 use engine::Head;
-use engine::answers::{Done, LoadDone};
+use engine::answers::{Keys, Next};
+use refusal::Refusal;
 
 // The share account: what is left of the share of each line 0 to 3; what is left of the common part; and whether sharing is open, 0 where it is closed
-// and any other number where it is open. It begins closed.
+// and any other number where it is open, since C has it so. It begins closed.
 #[repr(C)]
-#[derive(Clone, Copy)]
+#[derive(Clone, Copy, Debug, PartialEq, Eq)]
 pub struct ShareAccount {
     pub shares: [u64; 4],
     pub common: u64,
     pub opened: u64,
-}
-
-// The answer of opening, draw and closing: the refusal number, 0 where the call is accepted, and the next share account.
-#[repr(C)]
-#[derive(Clone, Copy)]
-pub struct ShareAnswer {
-    pub refusal: u64,
-    pub account: ShareAccount,
-}
-
-// What opening and draw hand back: the answer and the next head.
-#[derive(Clone, Copy)]
-pub struct ShareDone {
-    pub answer: ShareAnswer,
-    pub head: Head,
-}
-
-// What four shares leave of the stream: whether they are within it, and how many bytes are left.
-#[derive(Clone, Copy)]
-pub struct Rest {
-    pub enough: bool,
-    pub bytes: u64,
 }
 
 impl ShareAccount {
@@ -54,219 +37,215 @@ impl ShareAccount {
     {
         ShareAccount {
             opened: 0,
-            shares: [0, 0, 0, 0],
+            shares: [0; 4],
             common: 0,
+        }
+    }
+
+    // Whether sharing is open.
+    pub fn is_open(self) -> bool
+        ensures { result ≡ Shares.is_open self }
+    {
+        self.opened != 0
+    }
+}
+
+// What opening and draw hand back: the next head, the next share account and the answer.
+#[derive(Clone, Copy, Debug, PartialEq, Eq)]
+pub struct Shared {
+    pub head: Head,
+    pub account: ShareAccount,
+    pub answer: Result<(), Refusal>,
+}
+
+// For C the answer of opening, draw and closing: the refusal number, 0 where the call is accepted, and the next share account.
+#[repr(C)]
+#[derive(Clone, Copy, Debug, PartialEq, Eq)]
+pub struct ShareAnswer {
+    pub refusal: u64,
+    pub account: ShareAccount,
+}
+
+impl From<Shared> for ShareAnswer {
+    ghost from_gives = { λ shared given. given ≡ Answers.share_answer shared.answer shared.account };
+
+    fn from(shared: Shared) -> ShareAnswer {
+        ShareAnswer {
+            refusal: refusal::number_of(shared.answer),
+            account: shared.account,
         }
     }
 }
 
-// What a refused opening or draw hands back.
-fn not_shared(refusal: u64, account: ShareAccount, head: Head) -> ShareDone
-    ensures { result ≡ record { answer = record { refusal = refusal; account = account }; head = head } }
+// What four shares leave of so many bytes, if they are within them. No sum is made, so that none wraps.
+fn rest_of(left: u64, share0: u64, share1: u64, share2: u64, share3: u64) -> Option<u64>
+    ensures { SomeIff result (share0 + share1 + share2 + share3 ≤ left) (left - (share0 + share1 + share2 + share3)) }
 {
-    ShareDone {
-        answer: ShareAnswer {
-            refusal: refusal,
-            account: account,
-        },
-        head: head,
-    }
-}
-
-// What four shares leave of so many bytes. No sum is made, so that none wraps.
-fn rest_of(left: u64, share0: u64, share1: u64, share2: u64, share3: u64) -> Rest
-    ensures { Found.RestIs result left share0 share1 share2 share3 }
-{
-    let none = Rest {
-        enough: false,
-        bytes: 0,
-    };
-    if left < share0 {
-        return none;
-    }
-    let left1 = left - share0;
-    if left1 < share1 {
-        return none;
-    }
-    let left2 = left1 - share1;
-    if left2 < share2 {
-        return none;
-    }
-    let left3 = left2 - share2;
-    if left3 < share3 {
-        return none;
-    }
-    Rest {
-        enough: true,
-        bytes: left3 - share3,
-    }
+    left.checked_sub(share0)?
+        .checked_sub(share1)?
+        .checked_sub(share2)?
+        .checked_sub(share3)
 }
 
 // Opens sharing at the head's position with a share for each line; what they leave of the stream is common.
 pub fn open_sharing(
     head: Head,
-    account: ShareAccount,
+    mut account: ShareAccount,
     area: &[u32],
     share0: u64,
     share1: u64,
     share2: u64,
     share3: u64,
-) -> ShareDone
-    ensures { Answers.opened result.answer result.head area.now
+) -> Shared
+    ensures { Outcomes.opened result.answer result.account result.head area.now
         ≡ Calls.open_sharing_call account head area.now share0 share1 share2 share3 }
 {
-    let opened = account.opened;
-    if opened != 0 {
-        return not_shared(21, account, head);
-    }
-    let code = head.code;
-    let position = head.position;
-    let word = head.word;
-    let checked = conditions::ready_with_word(code, position, word, area);
-    let refusal = checked.refusal;
-    if refusal != 0 {
-        return not_shared(refusal, account, head);
-    }
-    let rest = rest_of(Head::LIMIT - position, share0, share1, share2, share3);
-    let enough = rest.enough;
-    if !enough {
-        return not_shared(20, account, head);
-    }
-    let shares = [share0, share1, share2, share3];
-    ShareDone {
-        answer: ShareAnswer {
-            refusal: 0,
-            account: ShareAccount {
-                opened: 1,
-                shares: shares,
-                common: rest.bytes,
-            },
-        },
-        head: head,
+    let answer = open_here(head, &mut account, area, share0, share1, share2, share3);
+    Shared {
+        head,
+        account,
+        answer,
     }
 }
 
-// The refusal number of a cipher call of n bytes, 0 where it would be accepted. Nothing is ciphered.
-fn cipher_check(head: Head, area: &[u32], n: u64) -> u64
-    ensures { result ≡ Found.refusal_of (Conditions.cipher_check (EngineCalls.head_ready head area.now) head.position n) }
+// The opening of a share account in its place: where it is refused, the account stays.
+#[tactic(auto, using(crate::proofs::Calls::open_stopped, crate::proofs::Calls::open_refused, crate::proofs::Calls::open_beyond))]
+fn open_here(
+    head: Head,
+    account: &mut ShareAccount,
+    area: &[u32],
+    share0: u64,
+    share1: u64,
+    share2: u64,
+    share3: u64,
+) -> Result<(), Refusal>
+    ensures { Outcomes.opened result account.new head area.now
+        ≡ Calls.open_sharing_call account.old head area.now share0 share1 share2 share3 }
 {
-    let code = head.code;
-    let position = head.position;
-    let word = head.word;
-    let checked = conditions::ready_with_word(code, position, word, area);
-    let refusal = checked.refusal;
-    if refusal != 0 {
-        return refusal;
+    if account.is_open() {
+        return Err(Refusal::WrongSharing);
     }
-    if Head::LIMIT - position < n {
-        return 6;
-    }
-    0
+    conditions::ready_with_word(head.code, head.position, head.word, area)?;
+    let left = Head::LIMIT - head.position;
+    let common = rest_of(left, share0, share1, share2, share3).ok_or(Refusal::PastShares)?;
+    *account = ShareAccount {
+        opened: 1,
+        shares: [share0, share1, share2, share3],
+        common,
+    };
+    Ok(())
 }
 
-// 19 for a line over 3, 20 where so many bytes are not within its share and the common part, else 0. No sum is made, so that none wraps.
-fn share_check(account: ShareAccount, line: u64, n: u64) -> u64
-    ensures { result ≡ Found.refusal_of (Calls.share_check account line n) }
+// What the conditions of a cipher call of n bytes say. Nothing is ciphered.
+#[tactic(auto, using(crate::proofs::Calls::check_refused, crate::proofs::Calls::check_past, crate::proofs::Calls::check_passed))]
+fn cipher_check(head: Head, area: &[u32], n: u64) -> Result<Cipher, Refusal>
+    ensures { told result ≡ Conditions.cipher_check (EngineCalls.head_ready head area.now) head.position n }
+{
+    let cipher = conditions::ready_with_word(head.code, head.position, head.word, area)?;
+    if Head::LIMIT - head.position < n {
+        return Err(Refusal::PastLimit);
+    }
+    Ok(cipher)
+}
+
+// Whether so many bytes are within a line's share and the common part. No sum is made, so that none wraps.
+#[tactic(auto, using(crate::proofs::Calls::line_over, crate::proofs::Calls::share_short, crate::proofs::Calls::share_gives))]
+fn share_check(account: ShareAccount, line: u64, n: u64) -> Result<(), Refusal>
+    ensures { told result ≡ Calls.share_check account line n }
 {
     if 3 < line {
-        return 19;
+        return Err(Refusal::NoLine);
     }
-    let shares = account.shares;
-    let i = line as usize;
-    let share = shares[i];
-    if n <= share {
-        return 0;
+    let share = account.shares[line as usize];
+    if account.common < n.saturating_sub(share) {
+        return Err(Refusal::PastShares);
     }
-    let common = account.common;
-    if common < n - share {
-        return 20;
-    }
-    0
+    Ok(())
 }
 
 // Takes so many bytes for a line, from its share and then from the common part.
-fn take_share(account: ShareAccount, line: u64, n: u64) -> ShareAccount
+#[tactic(auto, unfolding(crate::specs::Shares::drawn_from))]
+fn take_share(mut account: ShareAccount, line: u64, n: u64) -> ShareAccount
     requires { (line ≤ 3) × (n ≤ Shares.share_of account line + account.common) }
     ensures { result ≡ Shares.drawn_from account line n }
 {
-    let opened = account.opened;
-    let mut shares = account.shares;
-    let common = account.common;
     let i = line as usize;
-    let share = shares[i];
-    if n <= share {
-        shares[i] = share - n;
-        return ShareAccount {
-            opened: opened,
-            shares: shares,
-            common: common,
-        };
-    }
-    shares[i] = 0;
-    ShareAccount {
-        opened: opened,
-        shares: shares,
-        common: common - (n - share),
-    }
+    let share = account.shares[i];
+    account.shares[i] = share.saturating_sub(n);
+    account.common -= n.saturating_sub(share);
+    account
 }
 
 // Ciphers for a line. Where the bytes are not within its share and the common part, the refusals of the cipher call still come first.
 pub fn draw(
-    head: Head,
-    account: ShareAccount,
+    mut head: Head,
+    mut account: ShareAccount,
     area: &mut [u32],
     line: u64,
     bytes: &mut [u8],
-) -> ShareDone
-    ensures { Answers.drawn result.answer result.head area.new bytes.new
+) -> Shared
+    ensures { Outcomes.drawn result.answer result.account result.head area.new bytes.new
         ≡ Calls.draw_call account head area.old line bytes.old }
 {
-    let opened = account.opened;
-    if opened == 0 {
-        return not_shared(21, account, head);
-    }
-    let n = bytes.len() as u64;
-    let beyond = share_check(account, line, n);
-    if beyond != 0 {
-        let before = cipher_check(head, area, n);
-        if before != 0 {
-            return not_shared(before, account, head);
-        }
-        return not_shared(beyond, account, head);
-    }
-    let done = head.cipher(area, bytes);
-    let refusal = done.refusal;
-    let next = done.head;
-    if refusal != 0 {
-        return not_shared(refusal, account, head);
-    }
-    ShareDone {
-        answer: ShareAnswer {
-            refusal: 0,
-            account: take_share(account, line, n),
-        },
-        head: next,
+    let answer = draw_here(&mut head, &mut account, area, line, bytes);
+    Shared {
+        head,
+        account,
+        answer,
     }
 }
 
-// Closes sharing.
-pub fn close_sharing(account: ShareAccount) -> ShareAnswer
-    ensures { Answers.closed result ≡ Calls.close_sharing_call account }
+// The draw on a head and a share account in their places: where it is refused, both stay.
+#[tactic(auto, using(crate::proofs::Calls::draw_closed, crate::proofs::Calls::draw_before, crate::proofs::Calls::draw_beyond))]
+fn draw_here(
+    head: &mut Head,
+    account: &mut ShareAccount,
+    area: &mut [u32],
+    line: u64,
+    bytes: &mut [u8],
+) -> Result<(), Refusal>
+    ensures { Outcomes.drawn result account.new head.new area.new bytes.new
+        ≡ Calls.draw_call account.old head.old area.old line bytes.old }
 {
-    let opened = account.opened;
-    if opened == 0 {
-        return ShareAnswer {
-            refusal: 21,
-            account: account,
-        };
+    if !account.is_open() {
+        return Err(Refusal::WrongSharing);
     }
-    ShareAnswer {
-        refusal: 0,
-        account: ShareAccount::closed(),
+    let n = bytes.len() as u64;
+    if let Err(beyond) = share_check(*account, line, n) {
+        cipher_check(*head, area, n)?;
+        return Err(beyond);
+    }
+    let next = head.cipher(area, bytes);
+    next.answer?;
+    *head = next.head;
+    *account = take_share(*account, line, n);
+    Ok(())
+}
+
+// Closes sharing: the next share account.
+#[tactic(auto, using(crate::proofs::Calls::close_refused, crate::proofs::Calls::close_done))]
+pub fn close_sharing(account: ShareAccount) -> Result<ShareAccount, Refusal>
+    ensures { told result ≡ Calls.close_sharing account }
+{
+    if account.is_open() {
+        Ok(ShareAccount::closed())
+    } else {
+        Err(Refusal::WrongSharing)
+    }
+}
+
+// What a call hands back that is refused while sharing is open.
+fn stopped<T>(head: Head) -> Next<T>
+    ensures { result ≡ record { head = head; answer = Err WrongSharing } }
+{
+    Next {
+        head,
+        answer: Err(Refusal::WrongSharing),
     }
 }
 
 // Set up, while sharing is closed.
+#[tactic(auto, using(crate::proofs::Calls::stopped, crate::proofs::Calls::passed), unfolding(crate::specs::Calls::set_up_with, engine::specs::Calls::set_up_call))]
 pub fn set_up(
     head: Head,
     account: ShareAccount,
@@ -274,48 +253,42 @@ pub fn set_up(
     key: &[u8],
     iv: &[u8],
     area: &mut [u32],
-) -> Done
-    ensures { EngineAnswers.done result.refusal result.head area.new
+) -> Next<()>
+    ensures { EngineOutcomes.done result.answer result.head area.new
         ≡ Calls.set_up_with account head code key.now iv.now area.old }
 {
-    let opened = account.opened;
-    if opened != 0 {
-        return Done {
-            refusal: 21,
-            head: head,
-        };
+    if account.is_open() {
+        return stopped(head);
     }
     head.set_up(code, key, iv, area)
 }
 
 // Load, while sharing is closed.
-pub fn load(head: Head, account: ShareAccount, area: &mut [u32], string: &[u8]) -> LoadDone
-    ensures { EngineAnswers.loaded result.answer result.head area.new
+#[tactic(auto, using(crate::proofs::Calls::stopped, crate::proofs::Calls::passed), unfolding(crate::specs::Calls::load_with, engine::specs::Calls::load_call))]
+pub fn load(head: Head, account: ShareAccount, area: &mut [u32], string: &[u8]) -> Next<Keys>
+    ensures { EngineOutcomes.loaded result.answer result.head area.new
         ≡ Calls.load_with account head string.now area.old }
 {
-    let opened = account.opened;
-    if opened != 0 {
-        return engine::not_loaded(21, head);
+    if account.is_open() {
+        return stopped(head);
     }
     head.load(area, string)
 }
 
 // Move, while sharing is closed.
-pub fn move_by(head: Head, account: ShareAccount, area: &mut [u32], distance: i64) -> Done
-    ensures { EngineAnswers.done result.refusal result.head area.new
+#[tactic(auto, using(crate::proofs::Calls::stopped, crate::proofs::Calls::passed), unfolding(crate::specs::Calls::move_with, engine::specs::Calls::move_call))]
+pub fn move_by(head: Head, account: ShareAccount, area: &mut [u32], distance: i64) -> Next<()>
+    ensures { EngineOutcomes.done result.answer result.head area.new
         ≡ Calls.move_with account head area.old distance }
 {
-    let opened = account.opened;
-    if opened != 0 {
-        return Done {
-            refusal: 21,
-            head: head,
-        };
+    if account.is_open() {
+        return stopped(head);
     }
     head.move_by(area, distance)
 }
 
 // Test load, while sharing is closed.
+#[tactic(auto, using(crate::proofs::Calls::stopped, crate::proofs::Calls::passed), unfolding(crate::specs::Calls::test_load_with, test_load::specs::TestLoad::test_load_call))]
 pub fn run_test_load(
     head: Head,
     account: ShareAccount,
@@ -325,51 +298,41 @@ pub fn run_test_load(
     key: &[u8],
     iv: &[u8],
     area: &mut [u32],
-) -> Done
-    ensures { EngineAnswers.done result.refusal result.head area.new
+) -> Next<()>
+    ensures { EngineOutcomes.done result.answer result.head area.new
         ≡ Calls.test_load_with account head seed count code key.now iv.now area.old }
 {
-    let opened = account.opened;
-    if opened != 0 {
-        return Done {
-            refusal: 21,
-            head: head,
-        };
+    if account.is_open() {
+        return stopped(head);
     }
     test_load::test_load(head, seed, count, code, key, iv, area)
 }
 
 // Encipher volume, while sharing is closed.
+#[tactic(auto, using(crate::proofs::Calls::stopped, crate::proofs::Calls::passed), unfolding(crate::specs::Calls::encipher_volume_with, engine::specs::Calls::encipher_volume_call))]
 pub fn encipher_volume(
     head: Head,
     account: ShareAccount,
     area: &mut [u32],
     bytes: &mut [u8],
-) -> Done
-    ensures { EngineAnswers.ciphered result.refusal result.head area.new bytes.new
+) -> Next<()>
+    ensures { EngineOutcomes.ciphered result.answer result.head area.new bytes.new
         ≡ Calls.encipher_volume_with account head area.old bytes.old }
 {
-    let opened = account.opened;
-    if opened != 0 {
-        return Done {
-            refusal: 21,
-            head: head,
-        };
+    if account.is_open() {
+        return stopped(head);
     }
     head.encipher_volume(area, bytes)
 }
 
 // Cipher, while sharing is closed.
-pub fn cipher(head: Head, account: ShareAccount, area: &mut [u32], bytes: &mut [u8]) -> Done
-    ensures { EngineAnswers.ciphered result.refusal result.head area.new bytes.new
+#[tactic(auto, using(crate::proofs::Calls::stopped, crate::proofs::Calls::passed), unfolding(crate::specs::Calls::cipher_with, engine::specs::Calls::cipher_call))]
+pub fn cipher(head: Head, account: ShareAccount, area: &mut [u32], bytes: &mut [u8]) -> Next<()>
+    ensures { EngineOutcomes.ciphered result.answer result.head area.new bytes.new
         ≡ Calls.cipher_with account head area.old bytes.old }
 {
-    let opened = account.opened;
-    if opened != 0 {
-        return Done {
-            refusal: 21,
-            head: head,
-        };
+    if account.is_open() {
+        return stopped(head);
     }
     head.cipher(area, bytes)
 }
