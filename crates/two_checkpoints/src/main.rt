@@ -1,50 +1,56 @@
 // The cases of document 02 (m), same run or not, for both ciphers: a line each, `ok` or `wrong`.
 #![tactic(auto)]
 
+use cipher::Cipher;
+use refusal::Refusal;
+use std::fmt::Display;
 use std::io;
+use strings::Run;
 
-mod lines;
 mod pairs;
 mod refusals;
 mod strings;
 
-// One run: the same position; positions inside one word, which have the same tables; positions on both sides of a word's end, of the places where the
-// position gets a group more, and of the ends of a table's turn; the start and the end of the stream.
-fn one_run(rt: &impl Print, code: u32) -> io::Result<()> {
-    pairs::one_run(rt, code, 0, 0)?;
-    pairs::one_run(rt, code, 0, 1)?;
-    pairs::one_run(rt, code, 1, 4)?;
-    pairs::one_run(rt, code, 4, 5)?;
-    pairs::one_run(rt, code, 127, 128)?;
-    pairs::one_run(rt, code, 2_048, 2_049)?;
-    pairs::one_run(rt, code, 4_096, 4_097)?;
-    pairs::one_run(rt, code, 8_192, 8_193)?;
-    pairs::one_run(rt, code, 777, 16_383)?;
-    pairs::one_run(rt, code, 16_383, 16_384)?;
-    pairs::one_run(rt, code, 2_097_151, 2_097_152)?;
-    pairs::one_run(rt, code, 0, 67_108_864)?;
-    pairs::one_run(rt, code, 67_108_863, 67_108_864)
-}
+// The key and the IV of the box; the second halves are HC-256's alone.
+const KEY: [u8; 32] = [
+    1, 2, 3, 4, 5, 6, 7, 8, 9, 10, 11, 12, 13, 14, 15, 16, 17, 18, 19, 20, 21, 22, 23, 24, 25, 26,
+    27, 28, 29, 30, 31, 32,
+];
 
-// Other runs, at one position and at two; the last byte of a key is at place `last`.
-fn other_runs(rt: &impl Print, code: u32, last: usize) -> io::Result<()> {
-    pairs::other_runs(rt, code, 0, 0, last)?;
-    pairs::other_runs(rt, code, 5, 5, last)?;
-    pairs::other_runs(rt, code, 777, 20, last)
-}
+const IV: [u8; 32] = [
+    201, 202, 203, 204, 205, 206, 207, 208, 209, 210, 211, 212, 213, 214, 215, 216, 217, 218, 219,
+    220, 221, 222, 223, 224, 225, 226, 227, 228, 229, 230, 231, 232,
+];
 
-fn of_cipher(rt: &impl Print, code: u32, last: usize) -> io::Result<()> {
-    one_run(rt, code)?;
-    other_runs(rt, code, last)?;
-    refusals::two_ciphers(rt, code, 0, 0)?;
-    refusals::two_ciphers(rt, code, 5, 777)?;
-    refusals::first_byte(rt, code)?;
-    refusals::position(rt, code)?;
-    refusals::words(rt, code)?;
-    refusals::two_refused(rt, code)
+// Prints the line of a pair: what the two strings are, the answer that they are to get, and whether they get it.
+pub fn check(
+    rt: &impl Print,
+    case: impl Display + Drop,
+    first: &[u8],
+    second: &[u8],
+    expected: Result<bool, Refusal>,
+) -> io::Result<()> {
+    let is_right = same_run::same_run(first, second) == expected;
+    let word = if is_right { "ok" } else { "wrong" };
+    match expected {
+        Ok(true) => println!(rt; "{case}: yes {word}"),
+        Ok(false) => println!(rt; "{case}: no {word}"),
+        Err(refusal) => println!(rt; "{case}: refused {} {word}", u64::from(refusal)),
+    }
 }
 
 fn main(rt: HostRuntime) -> io::Result<()> {
-    of_cipher(&rt, 1, 15)?;
-    of_cipher(&rt, 2, 31)
+    for cipher in [Cipher::Hc128, Cipher::Hc256] {
+        let run = Run {
+            cipher,
+            key: KEY,
+            iv: IV,
+        };
+        pairs::one_run(&rt, run)?;
+        pairs::other_runs(&rt, run)?;
+        refusals::two_ciphers(&rt, run)?;
+        refusals::one_refused(&rt, run)?;
+        refusals::two_refused(&rt, run)?;
+    }
+    Ok(())
 }

@@ -1,82 +1,85 @@
 // Pairs of checkpoints of one cipher: of one run at two positions, and of runs whose key or IV is another.
-use crate::lines::{cipher, gets_no, gets_yes, number, text};
-use crate::strings::{Stored, checkpoint, other};
+use crate::check;
+use crate::strings::{Run, change, name};
 use std::io;
 
-// The key and the IV of the box; the second halves are HC-256's alone.
-const KEY: [u8; 32] = [
-    1, 2, 3, 4, 5, 6, 7, 8, 9, 10, 11, 12, 13, 14, 15, 16, 17, 18, 19, 20, 21, 22, 23, 24, 25, 26,
-    27, 28, 29, 30, 31, 32,
-];
-
-const IV: [u8; 32] = [
-    201, 202, 203, 204, 205, 206, 207, 208, 209, 210, 211, 212, 213, 214, 215, 216, 217, 218, 219,
-    220, 221, 222, 223, 224, 225, 226, 227, 228, 229, 230, 231, 232,
-];
-
-// The box's checkpoint at a position.
-pub fn at(code: u32, position: u32) -> Stored {
-    checkpoint(code, KEY, IV, position as i64)
+// One run: the same position; positions inside one word, which have the same tables; positions on both sides of a word's end, of the places where the
+// position gets a group more, and of the ends of a table's turn; the start and the end of the stream. Each pair in both orders.
+pub fn one_run(rt: &(impl Print + AllocGlobal), run: Run) -> io::Result<()> {
+    let cipher = name(run.cipher);
+    for (p, q) in [
+        (0, 0),
+        (0, 1),
+        (1, 4),
+        (4, 5),
+        (127, 128),
+        (2_048, 2_049),
+        (4_096, 4_097),
+        (8_192, 8_193),
+        (777, 16_383),
+        (16_383, 16_384),
+        (2_097_151, 2_097_152),
+        (0, 67_108_864),
+        (67_108_863, 67_108_864),
+    ] {
+        let a = run.checkpoint(rt.alloc(), p)?;
+        let b = run.checkpoint(rt.alloc(), q)?;
+        check(
+            rt,
+            format_args!("{cipher} at {p} and {q}"),
+            &a,
+            &b,
+            Ok(true),
+        )?;
+        check(
+            rt,
+            format_args!("{cipher} at {q} and {p}"),
+            &b,
+            &a,
+            Ok(true),
+        )?;
+    }
+    Ok(())
 }
 
-// Which cipher and which positions a pair has.
-fn places(rt: &impl Print, code: u32, p: u32, q: u32) -> io::Result<()> {
-    cipher(rt, code)?;
-    number(rt, " at ", p as u64)?;
-    number(rt, " and ", q as u64)
+// A key or an IV with one bit of a byte changed.
+fn changed(bytes: [u8; 32], at: usize) -> [u8; 32] {
+    let mut other = bytes;
+    change(&mut other, at);
+    other
 }
 
-// Two checkpoints of one run, in both orders.
-pub fn one_run(rt: &impl Print, code: u32, p: u32, q: u32) -> io::Result<()> {
-    let a = at(code, p);
-    let b = at(code, q);
-    places(rt, code, p, q)?;
-    gets_yes(rt, a, b)?;
-    places(rt, code, q, p)?;
-    gets_yes(rt, b, a)
-}
-
-// The box's checkpoint and that of another run, in both orders.
-fn two_runs(
-    rt: &impl Print,
-    code: u32,
-    p: u32,
-    q: u32,
-    case: &str,
-    key: [u8; 32],
-    iv: [u8; 32],
-) -> io::Result<()> {
-    let a = at(code, p);
-    let b = checkpoint(code, key, iv, q as i64);
-    places(rt, code, p, q)?;
-    text(rt, case)?;
-    gets_no(rt, a, b)?;
-    places(rt, code, q, p)?;
-    text(rt, case)?;
-    gets_no(rt, b, a)
-}
-
-// Key and IV that differ in one bit of their first or last byte, or are exchanged; `last` is the place of the last byte.
-pub fn other_runs(rt: &impl Print, code: u32, p: u32, q: u32, last: usize) -> io::Result<()> {
-    two_runs(rt, code, p, q, ", first byte of the key", other(KEY, 0), IV)?;
-    two_runs(
-        rt,
-        code,
-        p,
-        q,
-        ", last byte of the key",
-        other(KEY, last),
-        IV,
-    )?;
-    two_runs(rt, code, p, q, ", first byte of the IV", KEY, other(IV, 0))?;
-    two_runs(
-        rt,
-        code,
-        p,
-        q,
-        ", last byte of the IV",
-        KEY,
-        other(IV, last),
-    )?;
-    two_runs(rt, code, p, q, ", key and IV exchanged", IV, KEY)
+// Runs whose key and IV differ in one bit of their first or last byte, or are exchanged, at one position and at two. Each pair in both orders.
+pub fn other_runs(rt: &(impl Print + AllocGlobal), run: Run) -> io::Result<()> {
+    let Run { cipher, key, iv } = run;
+    let name = name(cipher);
+    let last = cipher.key_bytes() - 1;
+    for (p, q) in [(0, 0), (5, 5), (777, 20)] {
+        for (case, key, iv) in [
+            ("first byte of the key", changed(key, 0), iv),
+            ("last byte of the key", changed(key, last), iv),
+            ("first byte of the IV", key, changed(iv, 0)),
+            ("last byte of the IV", key, changed(iv, last)),
+            ("key and IV exchanged", iv, key),
+        ] {
+            let other = Run { cipher, key, iv };
+            let a = run.checkpoint(rt.alloc(), p)?;
+            let b = other.checkpoint(rt.alloc(), q)?;
+            check(
+                rt,
+                format_args!("{name} at {p} and {q}, {case}"),
+                &a,
+                &b,
+                Ok(false),
+            )?;
+            check(
+                rt,
+                format_args!("{name} at {q} and {p}, {case}"),
+                &b,
+                &a,
+                Ok(false),
+            )?;
+        }
+    }
+    Ok(())
 }
