@@ -12,12 +12,14 @@ use Rattle.steps.specs.Steps.{word_at}
 use Rattle.checkpoint.specs.Checkpoint.{most_groups}
 use Rattle.setup.specs.SetUp.{Undone, none, found}
 use Rattle.engine.specs.declared.Head.{Head}
-use Rattle.engine.specs.declared.answers.Done.{Done}
+use Rattle.std.specs.Prelude.{Ok, Err}
+use Rattle.std.specs.Prelude as Std
+use Rattle.refusal.specs.declared.Refusal.{Refusal}
 use Rattle.laws.specs.Result.{Result, refused, accepted, Outcome, outcome}
 use Rattle.conditions.specs.Limit.{limit}
 use Rattle.conditions.specs.Conditions.{ready, ready_with_word, cipher_check, undo_at, found_or12, position_read, cipher_in, contents_in, load_check}
 use Rattle.engine.specs.Calls.{head_ready, Ciphered, cipher, cipher_call}
-use Rattle.engine.specs.Answers as Answers
+use Rattle.engine.specs.Outcomes as Outcomes
 use Rattle.laws.proofs.Results.{no_refusal, accepted_one, after_line, after_without, after_unless}
 use Rattle.theorems.proofs.Conditions.{cipher_shows}
 use Rattle.lab.specs.Tasks.{Advance}
@@ -88,12 +90,12 @@ module _ (h : Head) (area bytes : List ℕ) where
         (cipher_shows _ h.position (length bytes) c e₁).1,
       )
 
-  pub advances : (r : Done) (s bs : List ℕ) → Answers.ciphered r.refusal r.head s bs ≡ cipher_call h area bytes → Advance h.position (length bytes) r
+  pub advances : (a : Std.Result (Unit {0}) Refusal) (new : Head) (s bs : List ℕ)
+      → Outcomes.ciphered a new s bs ≡ cipher_call h area bytes → Advance h.position (length bytes) (record { head = new; answer = a })
   unfolding cipher_call
-  advances r s bs e =
+  advances (Ok t) new s bs e =
       let refusal = ap (λ (l : Outcome Ciphered). l.refusal) e in
       let position = ap (λ (l : Outcome Ciphered). l.value.engine.head.position) e in
-      record {
-        advanced = λ z. position ∙ (ends (cipher h area bytes) refl _ (sym refusal ∙ z)).0;
-        within = λ z. (ends (cipher h area bytes) refl (record { engine = record { head = h; area = area }; bytes = bytes }) (sym refusal ∙ z)).1;
-      }
+      let (there, inside) = ends (cipher h area bytes) refl (record { engine = record { head = h; area = area }; bytes = bytes }) (sym refusal) in
+      record { advanced = position ∙ there; within = inside }
+  advances (Err r) new s bs e = record { advanced = tt; within = tt }

@@ -1,11 +1,14 @@
--- An answer that is true exactly where two lists are equal is their comparison.
-use mathlib.Core.Path.{◌≡◌, refl, sym}
-use mathlib.Core.Bool.{Bool, true, false, false≢true}
-use mathlib.Core.List.{List}
+-- What `==` tells of two slices is whether they are the same.
+use mathlib.Core.Path.{◌≡◌, refl}
+use mathlib.Core.List.{List, [], ◌∷◌}
 use Prim.Native.Nat.{ℕ}
+use lib.Dec.{eqb}
+use lib.Pointwise.{pointwise}
 use Rattle.laws.specs.Same.{same}
-use Rattle.laws.proofs.Same.{not_true_is_false, equal_same, same_equal}
 
-pub same_is : (r : Bool) (a b : List ℕ) → (r ≡ true → a ≡ b) → (a ≡ b → r ≡ true) → r ≡ same a b
-same_is true a b f g = sym (equal_same a b (f refl))
-same_is false a b f g = sym (not_true_is_false (same a b) (λ e. false≢true (g (same_equal a b e))))
+pub same_is : (l m : List ℕ) → same l m ≡ pointwise eqb l m
+unfolding same
+same_is [] [] = refl
+same_is [] (b ∷ m) = refl
+same_is (a ∷ l) [] = refl
+same_is (a ∷ l) (b ∷ m) = rw (same_is l m) refl

@@ -1,13 +1,12 @@
 -- The tasks of the program: calls of the engine, each on what the call before it left. Where a call is refused, its refusal is the answer, and the
 -- calls after it are not made.
-use Rattle.std.specs.Prelude.{◌≡◌, Bool, cond, List, [], ◌∷◌, ℕ, ◌+◌, ◌-◌, ◌≤◌, eqb, ltb, ℤ, pos, negsuc, neg_ℤ, length, take, drop}
-use Rattle.std.proofs.Math.Option.{Option, none, some}
+use Rattle.std.specs.Prelude.{◌≡◌, Bool, cond, Option, Some, None, OnOk, List, [], ◌∷◌, ℕ, ◌+◌, ◌-◌, ◌≤◌, eqb, ltb, ℤ, pos, negsuc, neg_ℤ, length, take, drop}
 use Rattle.varint.specs.Number.{Reading, is, ended, malformed, read_number}
 use Rattle.cipher.specs.declared.Cipher.{Cipher}
 use Rattle.cipher.specs.declared.Cipher.TheVariants.{Hc128, Hc256}
 use Rattle.cipher.specs.Numbers.{code_of}
 use Rattle.checkpoint.specs.Checkpoint.{most_groups}
-use Rattle.engine.specs.declared.answers.Done.{Done}
+use Rattle.engine.specs.declared.answers.Next.{Next}
 use Rattle.laws.specs.Result.{Outcome}
 use Rattle.conditions.specs.Limit.{limit}
 use Rattle.engine.specs.Head.{fresh_head}
@@ -21,9 +20,9 @@ cipher_of (b ∷ string) = cond (eqb b (code_of Hc128)) Hc128 Hc256
 
 -- the position that a checkpoint states: the number after its first byte
 abbrev pub value : Reading → Option ℕ
-value (is n rest) = some n
-value ended = none
-value malformed = none
+value (is n rest) = Some n
+value ended = None
+value malformed = None
 
 unfoldable pub position_in : List ℕ → Option ℕ
 position_in string = value (read_number most_groups (drop 1 string))
@@ -40,9 +39,9 @@ abbrev pub passes_limit : ℕ → ℕ → Bool
 passes_limit position n = ltb limit (position + n)
 
 -- an accepted cipher call advances by the number of its bytes, and the end is within the limit
-pub record Advance (position n : ℕ) (r : Done) : Type 0 where
-  pub advanced : r.refusal ≡ 0 → r.head.position ≡ position + n
-  pub within : r.refusal ≡ 0 → position + n ≤ limit
+pub record Advance (position n : ℕ) (next : Next (Unit {0})) : Type 0 where
+  pub advanced : OnOk next.answer (next.head.position ≡ position + n)
+  pub within : OnOk next.answer (position + n ≤ limit)
 
 -- what two calls leave, the second on what the first left; `kept` is what is left where the first is refused
 abbrev pub and_then : {A : Type 0} → Outcome Engine → (Engine → Outcome A) → (Engine → A) → Outcome A

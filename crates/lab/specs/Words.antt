@@ -1,10 +1,10 @@
 -- The words of the command line.
-use Rattle.std.specs.Prelude.{cond, List, [], ◌∷◌, ℕ}
+use Rattle.std.specs.Prelude.{cond, Option, Some, None, List, [], ◌∷◌, ℕ}
 use Rattle.laws.specs.Same.{same}
 use Rattle.cipher.specs.declared.Cipher.TheVariants.{Hc128, Hc256}
 use Rattle.cipher.specs.Numbers.{code_of}
 use Rattle.lab.specs.declared.Command.{Command}
-use Rattle.lab.specs.declared.Command.TheVariants.{Cipher, Describe, Recover, Open, At, Write, SameRun, Help, Unknown}
+use Rattle.lab.specs.declared.Command.TheVariants.{Cipher, Describe, Recover, Open, At, Write, SameRun, Help}
 
 -- the words that it knows, as the bytes of their letters
 abbrev pub «cipher» : List ℕ
@@ -37,17 +37,17 @@ abbrev pub «hc128» : List ℕ
 abbrev pub «hc256» : List ℕ
 «hc256» = 104 ∷ 99 ∷ 50 ∷ 53 ∷ 54 ∷ []
 
--- the command that a word names
-unfoldable pub command_of : List ℕ → Command
+-- the command that a word names, if it names one
+unfoldable pub command_of : List ℕ → Option Command
 command_of w =
-    cond (same w «cipher») Cipher
-    (cond (same w «describe») Describe
-    (cond (same w «recover») Recover
-    (cond (same w «open») Open
-    (cond (same w «at») At
-    (cond (same w «write») Write
-    (cond (same w «same_run») SameRun
-    (cond (same w «help») Help Unknown)))))))
+    cond (same w «cipher») (Some Cipher)
+    (cond (same w «describe») (Some Describe)
+    (cond (same w «recover») (Some Recover)
+    (cond (same w «open») (Some Open)
+    (cond (same w «at») (Some At)
+    (cond (same w «write») (Some Write)
+    (cond (same w «same_run») (Some SameRun)
+    (cond (same w «help») (Some Help) None)))))))
 
 -- the code of the cipher that a word names, 0 where it names none
 unfoldable pub cipher_code : List ℕ → ℕ

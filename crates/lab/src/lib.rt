@@ -2,27 +2,19 @@
 // and no output.
 #![tactic(auto)]
 
-ghost use Rattle.std.specs.Prelude.{◌≡◌, length};
+ghost use Rattle.std.specs.Prelude.{◌≡◌, IfOk, length};
 ghost use Rattle.engine.specs.Calls as Calls;
-ghost use Rattle.laws.specs.Same.{same};
-ghost use Rattle.engine.specs.Answers as Answers;
+ghost use Rattle.engine.specs.Outcomes as Outcomes;
 ghost use Rattle.lab.specs.Words as Words;
 ghost use Rattle.lab.specs.Decimal as Decimals;
 ghost use Rattle.lab.specs.Tasks as Tasks;
 
 use cipher::Cipher;
 use engine::Head;
-use engine::answers::{Done, WriteDone};
-
-// Whether two words are the same.
-pub fn same(a: &[u8], b: &[u8]) -> bool
-    ensures { result ≡ same a.now b.now }
-{
-    check::same(a, b)
-}
+use engine::answers::Next;
 
 // The commands of the program.
-#[derive(Clone, Copy)]
+#[derive(Clone, Copy, Debug, PartialEq, Eq)]
 pub enum Command {
     Cipher,
     Describe,
@@ -32,109 +24,86 @@ pub enum Command {
     Write,
     SameRun,
     Help,
-    Unknown,
 }
 
 // The command that a word names.
-pub fn command_of(word: &[u8]) -> Command
+#[tactic(auto, using(crate::proofs::Words::same_is), unfolding(crate::specs::Words::command_of))]
+pub fn command_of(word: &[u8]) -> Option<Command>
     ensures { result ≡ Words.command_of word.now }
 {
-    if same(word, b"cipher") {
-        return Command::Cipher;
+    if word == b"cipher".as_slice() {
+        Some(Command::Cipher)
+    } else if word == b"describe".as_slice() {
+        Some(Command::Describe)
+    } else if word == b"recover".as_slice() {
+        Some(Command::Recover)
+    } else if word == b"open".as_slice() {
+        Some(Command::Open)
+    } else if word == b"at".as_slice() {
+        Some(Command::At)
+    } else if word == b"write".as_slice() {
+        Some(Command::Write)
+    } else if word == b"same-run".as_slice() {
+        Some(Command::SameRun)
+    } else if word == b"help".as_slice() {
+        Some(Command::Help)
+    } else {
+        None
     }
-    if same(word, b"describe") {
-        return Command::Describe;
-    }
-    if same(word, b"recover") {
-        return Command::Recover;
-    }
-    if same(word, b"open") {
-        return Command::Open;
-    }
-    if same(word, b"at") {
-        return Command::At;
-    }
-    if same(word, b"write") {
-        return Command::Write;
-    }
-    if same(word, b"same-run") {
-        return Command::SameRun;
-    }
-    if same(word, b"help") {
-        return Command::Help;
-    }
-    Command::Unknown
 }
 
-// The code of the cipher that a word names, 0 where it names none.
+// The code of the cipher that a word names, 0 where it names none, which set up refuses.
+#[tactic(auto, using(crate::proofs::Words::same_is), unfolding(crate::specs::Words::cipher_code))]
 pub fn cipher_code(word: &[u8]) -> u32
     ensures { result ≡ Words.cipher_code word.now }
 {
-    if same(word, b"hc128") {
-        return Cipher::Hc128.code();
+    if word == b"hc128".as_slice() {
+        Cipher::Hc128.code()
+    } else if word == b"hc256".as_slice() {
+        Cipher::Hc256.code()
+    } else {
+        0
     }
-    if same(word, b"hc256") {
-        return Cipher::Hc256.code();
-    }
-    0
-}
-
-// What a text is as a number.
-#[derive(Clone, Copy)]
-pub enum Number {
-    Is(u64),
-    Not,
 }
 
 // The number that a text spells in decimal.
-pub fn decimal(text: &[u8]) -> Number
-    ensures { Decimals.number_is result ≡ Decimals.decimal text.now }
+#[tactic(auto, using(crate::proofs::Digits::of_empty, crate::proofs::Digits::starts, crate::proofs::Digits::below_digits, crate::proofs::Digits::above_digits, crate::proofs::Digits::goes_on, crate::proofs::Digits::too_large, crate::proofs::Digits::ends))]
+pub fn decimal(text: &[u8]) -> Option<u64>
+    ensures { result ≡ Decimals.decimal text.now }
 {
-    if text.len() == 0 {
-        return Number::Not;
+    if text.is_empty() {
+        return None;
     }
     let mut n: u64 = 0;
-    let mut i = 0;
-    while i < text.len() {
-        let b = text[i];
-        if b < b'0' {
-            return Number::Not;
+    for &digit in text {
+        if digit < b'0' || b'9' < digit {
+            return None;
         }
-        if b'9' < b {
-            return Number::Not;
-        }
-        let d = (b - b'0') as u64;
-        if (u64::MAX - d) / 10 < n {
-            return Number::Not;
-        }
-        n = 10 * n + d;
-        i += 1;
+        n = n.checked_mul(10)?.checked_add((digit - b'0') as u64)?;
     }
-    Number::Is(n)
+    Some(n)
 }
 
 // The cipher whose area a checkpoint is loaded into, by its first byte; HC-256 where that names none, and load then refuses.
+#[tactic(auto, unfolding(crate::specs::Tasks::cipher_of), using(crate::proofs::First::none_first, crate::proofs::First::some_first, crate::proofs::First::other_first))]
 pub fn cipher_of(string: &[u8]) -> Cipher
     ensures { result ≡ Tasks.cipher_of string.now }
 {
-    if string.len() == 0 {
-        return Cipher::Hc256;
+    match string.first() {
+        Some(&code) if u32::from(code) == Cipher::Hc128.code() => Cipher::Hc128,
+        _ => Cipher::Hc256,
     }
-    if string[0] as u32 == Cipher::Hc128.code() {
-        return Cipher::Hc128;
-    }
-    Cipher::Hc256
 }
 
 // The position that a checkpoint states, whether or not it loads.
-pub fn position_in(string: &[u8]) -> Number
-    ensures { Decimals.number_is result ≡ Tasks.position_in string.now }
+#[tactic(auto, using(crate::proofs::Positions::stated, crate::proofs::Positions::not_stated), unfolding(crate::specs::Tasks::position_in))]
+pub fn position_in(string: &[u8]) -> Option<u64>
+    ensures { result ≡ Tasks.position_in string.now }
 {
-    let position = reader::read_position(string);
-    if position.refusal != 0 {
-        return Number::Not;
+    match reader::read_position(string) {
+        Ok(found) => Some(found.value),
+        Err(_) => None,
     }
-    Number::Is(position.value)
 }
 
 // The bytes from one place of a file to another, 0 where the second is not after the first or a place is below 0.
@@ -154,15 +123,12 @@ pub fn span(here: i64, end: i64) -> u64
 pub fn passes_limit(from: u64, n: u64) -> bool
     ensures { result ≡ Tasks.passes_limit from n }
 {
-    if Head::LIMIT < from {
-        return true;
-    }
-    Head::LIMIT - from < n
+    Head::LIMIT < from.saturating_add(n)
 }
 
 // Enciphers or deciphers the next bytes of a log. Where it is accepted, the position grows by their number and stays within the limit.
-pub fn cipher_next(head: Head, area: &mut [u32], bytes: &mut [u8]) -> Done
-    ensures { (Answers.ciphered result.refusal result.head area.new bytes.new
+pub fn cipher_next(head: Head, area: &mut [u32], bytes: &mut [u8]) -> Next<()>
+    ensures { (Outcomes.ciphered result.answer result.head area.new bytes.new
         ≡ Calls.cipher_call head area.old bytes.old)
         × Tasks.Advance head.position (length bytes.old) result }
 {
@@ -170,70 +136,65 @@ pub fn cipher_next(head: Head, area: &mut [u32], bytes: &mut [u8]) -> Done
 }
 
 // Loads a checkpoint, from a fresh head.
-fn load_fresh(string: &[u8], area: &mut [u32]) -> Done
-    ensures { Answers.done result.refusal result.head area.new
+fn load_fresh(string: &[u8], area: &mut [u32]) -> Next<()>
+    ensures { Outcomes.done result.answer result.head area.new
         ≡ Tasks.load_fresh string.now area.old }
 {
     let loaded = Head::fresh().load(area, string);
-    let answer = loaded.answer;
-    let head = loaded.head;
-    Done {
-        refusal: answer.refusal,
-        head: head,
+    Next {
+        head: loaded.head,
+        answer: loaded.answer.and(Ok(())),
     }
 }
 
 // Loads a checkpoint and moves to a position.
-pub fn load_and_move(string: &[u8], area: &mut [u32], position: u64) -> Done
-    ensures { Answers.done result.refusal result.head area.new
+#[tactic(auto, using(crate::proofs::Tasks::moved_made))]
+pub fn load_and_move(string: &[u8], area: &mut [u32], position: u64) -> Next<()>
+    ensures { Outcomes.done result.answer result.head area.new
         ≡ Tasks.load_and_move string.now area.old position }
 {
-    let done = load_fresh(string, area);
-    let refusal = done.refusal;
-    let head = done.head;
-    if refusal != 0 {
-        return done;
+    let loaded = load_fresh(string, area);
+    match loaded.answer {
+        Ok(()) => move_to::move_to(loaded.head, area, position),
+        Err(_) => loaded,
     }
-    move_to::move_to(head, area, position)
 }
 
 // Loads a checkpoint and moves back to position 0.
-pub fn open_checkpoint(string: &[u8], area: &mut [u32]) -> Done
-    ensures { Answers.done result.refusal result.head area.new
+pub fn open_checkpoint(string: &[u8], area: &mut [u32]) -> Next<()>
+    ensures { Outcomes.done result.answer result.head area.new
         ≡ Tasks.open_checkpoint string.now area.old }
 {
     load_and_move(string, area, 0)
 }
 
 // Sets up with a key and an IV and moves to a position.
-pub fn set_up_at(code: u32, key: &[u8], iv: &[u8], area: &mut [u32], position: u64) -> Done
-    ensures { Answers.done result.refusal result.head area.new
+#[tactic(auto, using(crate::proofs::Tasks::started_made))]
+pub fn set_up_at(code: u32, key: &[u8], iv: &[u8], area: &mut [u32], position: u64) -> Next<()>
+    ensures { Outcomes.done result.answer result.head area.new
         ≡ Tasks.set_up_at code key.now iv.now area.old position }
 {
-    let done = Head::fresh().set_up(code, key, iv, area);
-    let refusal = done.refusal;
-    let start = done.head;
-    if refusal != 0 {
-        return Done {
-            refusal: refusal,
-            head: start,
-        };
+    let started = Head::fresh().set_up(code, key, iv, area);
+    match started.answer {
+        Ok(()) => move_to::move_to(started.head, area, position),
+        Err(_) => started,
     }
-    move_to::move_to(start, area, position)
 }
 
 // Puts the checkpoint at the start of the lent bytes, on what the calls before left, where they were accepted.
-fn write_after(done: Done, area: &[u32], lent: &mut [u8]) -> WriteDone
-    ensures { (Answers.written result.answer result.head area.now lent.new
-        ≡ Tasks.then_write (Answers.done done.refusal done.head area.now) lent.old)
-        × Tasks.Counts result.answer.length lent.new }
+#[tactic(auto, using(crate::proofs::Tasks::written_refused))]
+fn write_after(before: Next<()>, area: &[u32], lent: &mut [u8]) -> Next<usize>
+    ensures { (Outcomes.written result.answer result.head area.now lent.new
+        ≡ Tasks.then_write (Outcomes.done before.answer before.head area.now) lent.old)
+        × IfOk result.answer (λ n. Tasks.Counts n lent.new) }
 {
-    let refusal = done.refusal;
-    let head = done.head;
-    if refusal != 0 {
-        return engine::not_written(refusal, head);
+    match before.answer {
+        Ok(()) => before.head.write(area, lent),
+        Err(refusal) => Next {
+            head: before.head,
+            answer: Err(refusal),
+        },
     }
-    head.write(area, lent)
 }
 
 // Sets up with a key and an IV, moves to a position and puts the checkpoint at the start of the lent bytes.
@@ -244,35 +205,34 @@ pub fn write_at(
     area: &mut [u32],
     position: u64,
     lent: &mut [u8],
-) -> WriteDone
-    ensures { (Answers.written result.answer result.head area.new lent.new
+) -> Next<usize>
+    ensures { (Outcomes.written result.answer result.head area.new lent.new
         ≡ Tasks.write_at code key.now iv.now area.old position lent.old)
-        × Tasks.Counts result.answer.length lent.new }
+        × IfOk result.answer (λ n. Tasks.Counts n lent.new) }
 {
-    let done = set_up_at(code, key, iv, area, position);
-    write_after(done, area, lent)
+    let moved = set_up_at(code, key, iv, area, position);
+    write_after(moved, area, lent)
 }
 
 // Loads a checkpoint, moves to a position and puts the checkpoint there at the start of the lent bytes.
-pub fn rewrite_at(string: &[u8], area: &mut [u32], position: u64, lent: &mut [u8]) -> WriteDone
-    ensures { (Answers.written result.answer result.head area.new lent.new
+pub fn rewrite_at(string: &[u8], area: &mut [u32], position: u64, lent: &mut [u8]) -> Next<usize>
+    ensures { (Outcomes.written result.answer result.head area.new lent.new
         ≡ Tasks.rewrite_at string.now area.old position lent.old)
-        × Tasks.Counts result.answer.length lent.new }
+        × IfOk result.answer (λ n. Tasks.Counts n lent.new) }
 {
-    let done = load_and_move(string, area, position);
-    write_after(done, area, lent)
+    let moved = load_and_move(string, area, position);
+    write_after(moved, area, lent)
 }
 
 // Loads a checkpoint and fills the two buffers with its key and its IV.
-pub fn recover_from(string: &[u8], area: &mut [u32], key: &mut [u8], iv: &mut [u8]) -> Done
-    ensures { Answers.recovered result.refusal result.head area.new key.new iv.new
+#[tactic(auto, using(crate::proofs::Tasks::recovered_made))]
+pub fn recover_from(string: &[u8], area: &mut [u32], key: &mut [u8], iv: &mut [u8]) -> Next<()>
+    ensures { Outcomes.recovered result.answer result.head area.new key.new iv.new
         ≡ Tasks.recover_from string.now area.old key.old iv.old }
 {
-    let done = load_fresh(string, area);
-    let refusal = done.refusal;
-    let head = done.head;
-    if refusal != 0 {
-        return done;
+    let loaded = load_fresh(string, area);
+    match loaded.answer {
+        Ok(()) => loaded.head.recover(area, key, iv),
+        Err(_) => loaded,
     }
-    head.recover(area, key, iv)
 }

@@ -3,4 +3,4 @@ use Rattle.lab.proofs.Tasks.{loaded_is}
 use Rattle.lab.proofs.load_fresh.Goals as goal
 
 pub returns : goal.returns
-returns c = loaded_is _ _ _ _ _ c.fresh.ensures c.load-loaded.ensures
+returns c = rw c.and.ensures (loaded_is _ _ _ _ _ _ c.fresh.ensures c.load-loaded.ensures)

@@ -1,10 +1,6 @@
--- Recover is called on what an accepted load left.
-use Rattle.lab.proofs.Tasks.{recovered_refused, recovered_made}
+-- A load that is refused is the answer.
+use Rattle.lab.proofs.Tasks.{recovered_refused}
 use Rattle.lab.proofs.recover_from.Goals as goal
 
-pub returns-then-refusal-ne0 : goal.returns-then-refusal-ne0
-returns-then-refusal-ne0 c = recovered_refused _ _ _ _ c.load_fresh-done.ensures _ _ c.if-refusal-ne0.true
-
-pub returns : goal.returns
-returns c =
-    recovered_made _ _ _ _ c.load_fresh-done.ensures _ _ c.if-refusal-ne0.false _ c.recover.ensures
+pub returns-in-Err : goal.returns-in-Err
+returns-in-Err c = recovered_refused _ _ _ _ _ c.load_fresh-loaded.ensures _ _ _ c.in-Err.is

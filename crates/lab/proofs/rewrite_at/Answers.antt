@@ -5,4 +5,4 @@ use Rattle.lab.proofs.rewrite_at.Goals as goal
 
 pub returns : goal.returns
 unfolding rewrite_at
-returns c = written_after _ _ _ _ _ c.load_and_move-done.ensures c.write_after.ensures
+returns c = written_after _ _ _ _ _ c.load_and_move-moved.ensures c.write_after.ensures

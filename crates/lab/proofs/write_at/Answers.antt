@@ -5,4 +5,4 @@ use Rattle.lab.proofs.write_at.Goals as goal
 
 pub returns : goal.returns
 unfolding write_at
-returns c = written_after _ _ _ _ _ c.set_up_at-done.ensures c.write_after.ensures
+returns c = written_after _ _ _ _ _ c.set_up_at-moved.ensures c.write_after.ensures
