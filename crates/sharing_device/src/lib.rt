@@ -24,9 +24,9 @@ pub extern "C" fn hc_open_sharing(
     ensures { Answers.opened result head.new area.now
         ≡ Calls.open_sharing_call account head.old area.now share0 share1 share2 share3 }
 {
-    let opened = sharing::open_sharing(*head, account, area, share0, share1, share2, share3);
-    *head = opened.head;
-    opened.answer
+    let next = sharing::open_sharing(*head, account, area, share0, share1, share2, share3);
+    *head = next.head;
+    next.into()
 }
 
 // Draw: the cipher call for a line, whose bytes are taken from its share and then from the common part.
@@ -41,15 +41,25 @@ pub extern "C" fn hc_draw(
     ensures { Answers.drawn result head.new area.new bytes.new
         ≡ Calls.draw_call account head.old area.old line bytes.old }
 {
-    let drawn = sharing::draw(*head, account, area, line, bytes);
-    *head = drawn.head;
-    drawn.answer
+    let next = sharing::draw(*head, account, area, line, bytes);
+    *head = next.head;
+    next.into()
 }
 
 // Close sharing: the next share account is the closed one, all 0.
+#[tactic(auto, unfolding(sharing::specs::Calls::close_sharing_call))]
 #[unsafe(no_mangle)]
 pub extern "C" fn hc_close_sharing(account: ShareAccount) -> ShareAnswer
     ensures { Answers.closed result ≡ Calls.close_sharing_call account }
 {
-    sharing::close_sharing(account)
+    match sharing::close_sharing(account) {
+        Ok(closed) => ShareAnswer {
+            refusal: 0,
+            account: closed,
+        },
+        Err(refusal) => ShareAnswer {
+            refusal: refusal.into(),
+            account,
+        },
+    }
 }
