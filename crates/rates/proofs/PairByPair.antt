@@ -57,9 +57,6 @@ module _ (n : ℕ) (whole : List ℕ) where
   abbrev pub Filling : (k last : ℕ) (rest cents : List ℕ) → Type 0
   Filling k last rest cents = all n (at_first whole) ≡ all (n - k) (record { last = last; rest = rest; cents = cents })
 
-  pub filling_starts : Filling 0 0 whole (replicate 8 0)
-  filling_starts = Turns.result_starts turn all all_suc n (at_first whole)
-
   module _ (k last : ℕ) (rest cents : List ℕ) (come : Filling k last rest cents) where
     pub filling_turns : {first : PairRead} → k < n → read_pair last rest ≡ accepted first
         → Filling (k + 1) first.pair.product first.rest (set cents (first.pair.product - 1) first.pair.rate)

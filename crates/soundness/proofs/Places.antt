@@ -96,9 +96,6 @@ module _ (s : List ℕ) where
     abbrev pub Left : ℕ → List ℕ → Type 0
     Left k rest = entries_soundness s n start ≡ entries_soundness s (n - k) rest
 
-    pub left_starts : Left 0 start
-    left_starts = Turns.starts turn stop (entries_soundness s) all_refused all_accepted n start
-
     module _ (k : ℕ) (rest : List ℕ) (come : Left k rest) where
       pub left_turns : {first : EntryRead} → k < n → read_entry rest ≡ accepted first → Left (k + 1) first.rest
       left_turns l e = Turns.turns turn stop (entries_soundness s) all_refused all_accepted n start k rest come l (rw e)
