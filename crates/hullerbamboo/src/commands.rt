@@ -1,619 +1,365 @@
-// The commands, each with the words of its command line.
-use crate::{files, log, say, sizes, words};
-use cipher::{Cipher, Known};
+// The commands, each with the words that follow its name.
+use crate::say::{Numbered, Stop};
+use crate::{files, log};
+use cipher::Cipher;
 use engine::Head;
-use lab::Number;
-use std::io;
-use std::rt::{Env, Runtime};
+use refusal::Refusal;
+use std::rt::Runtime;
+use std::{fmt, io};
 
-// The command line: how many words it has, the program's name among them, without the option, and whether the option is its last word.
-#[derive(Clone, Copy)]
-struct Line {
-    words: usize,
-    option: bool,
-}
+// More bytes than any checkpoint has, which are read of one.
+const CHECKPOINT_BYTES: u64 = 8198;
 
-// Whether the last word is an option.
-fn last_is(rt: &impl Env, option: &[u8], last: usize) -> bool {
-    let mut buffer = [0u8; 16];
-    let word = words::word(rt, last, &mut buffer);
-    lab::same(word.as_bytes(), option)
-}
+// More bytes than any key or IV has, which are read of a file with one.
+const SECRET_BYTES: u64 = 33;
 
-// The command line, with an option that may be its last word.
-fn read_line(rt: &impl Env, option: &[u8]) -> Line {
-    let count = words::count(rt);
-    if count == 0 {
-        return Line {
-            words: 0,
-            option: false,
-        };
-    }
-    if last_is(rt, option, count - 1) {
-        return Line {
-            words: count - 1,
-            option: true,
-        };
-    }
-    Line {
-        words: count,
-        option: false,
+// The words without an option that may be the last of them, and whether it is.
+fn without_option<'a>(words: &'a [String], option: &str) -> (&'a [String], bool) {
+    match words.split_last() {
+        Some((last, rest)) if last.as_str() == option => (rest, true),
+        _ => (words, false),
     }
 }
 
-// A number of the command line: whether it is one, and which.
-#[derive(Clone, Copy)]
-struct Position {
-    ok: bool,
-    value: u64,
+// The position that a word is.
+fn position_of(word: &str) -> Result<u64, Stop<'_>> {
+    lab::decimal(word.as_bytes()).ok_or(Stop::Word {
+        word,
+        sentence: "a position is a number of bytes in decimal, from 0 to 67108864.",
+    })
 }
 
-// The position that a word of the command line is.
-fn read_position(rt: &(impl Env + Eprint), i: usize) -> Position {
-    let mut buffer = [0u8; 4096];
-    let word = words::word(rt, i, &mut buffer);
-    let number = lab::decimal(word.as_bytes());
-    match number {
-        Number::Is(value) => Position {
-            ok: true,
-            value: value,
-        },
-        Number::Not => {
-            say::wrong(
-                rt,
-                word,
-                "a position is a number of bytes in decimal, from 0 to 67108864.",
-            );
-            Position {
-                ok: false,
-                value: 0,
-            }
-        }
-    }
-}
-
-// The code of the cipher that the third word names, 0 where it names none, which is said.
-fn code(rt: &(impl Env + Eprint)) -> u32 {
-    let mut buffer = [0u8; 4096];
-    let word = words::word(rt, 2, &mut buffer);
-    let code = lab::cipher_code(word.as_bytes());
-    if code == 0 {
-        say::wrong(rt, word, "a cipher is hc128 or hc256.");
-    }
-    code
-}
-
-// Says that the engine refused the file that a word names.
-fn refuse(rt: &(impl Env + Eprint), i: usize, refusal: u64) {
-    let mut buffer = [0u8; 4096];
-    say::refused(rt, words::word(rt, i, &mut buffer), refusal);
+// The cipher that a word names.
+fn cipher_of(word: &str) -> Result<Cipher, Stop<'_>> {
+    Cipher::try_from(lab::cipher_code(word.as_bytes())).map_err(|_| Stop::Word {
+        word,
+        sentence: "a cipher is hc128 or hc256.",
+    })
 }
 
 // ---- the commands that begin with a key and an IV
 
-// What is to be done with a key and an IV: the cipher, the position, and whether the checkpoint there is written or a log ciphered from there on,
-// with or without progress.
-#[derive(Clone, Copy)]
-struct Job {
+// The cipher, the key and the IV of a stream, a position in it, and the files that the key and the IV came from.
+#[derive(Drop)]
+struct Start<'a> {
     cipher: Cipher,
     position: u64,
-    writes: bool,
-    progress: bool,
+    key_path: &'a str,
+    key: Vec<u8>,
+    iv_path: &'a str,
+    iv: Vec<u8>,
 }
 
-// Says that a key or an IV, in the file that a word names, has not the cipher's length.
-fn refuse_length(rt: &(impl Env + Eprint), i: usize, refusal: u64, c: Cipher) {
-    let mut buffer = [0u8; 4096];
-    let word = words::word(rt, i, &mut buffer);
-    say::refused_length(rt, word, refusal, c.key_bytes());
-}
-
-// Says that the engine refused a job: the key, the IV or the position.
-fn refuse_job(rt: &(impl Env + Eprint), job: Job, refusal: u64) {
-    let position = job.position;
-    let c = job.cipher;
-    if refusal == 2 {
-        refuse_length(rt, 3, refusal, c);
-    } else if refusal == 3 {
-        refuse_length(rt, 4, refusal, c);
-    } else {
-        say::refused_position(rt, position, refusal);
+impl<'a> Start<'a> {
+    // Reads the key and the IV of a cipher.
+    fn read(
+        rt: &(impl Runtime + AllocGlobal),
+        position: u64,
+        cipher: &'a str,
+        key_path: &'a str,
+        iv_path: &'a str,
+    ) -> Result<Start<'a>, Stop<'a>> {
+        let cipher = cipher_of(cipher)?;
+        let size = cipher.key_bytes() as u64;
+        let key = files::read(rt, key_path, size, SECRET_BYTES)?;
+        let iv = files::read(rt, iv_path, size, SECRET_BYTES)?;
+        Ok(Start {
+            cipher,
+            position,
+            key_path,
+            key,
+            iv_path,
+            iv,
+        })
     }
-}
 
-// Ciphers a log.
-fn cipher_log(rt: &impl Runtime, job: Job, key: &[u8], iv: &[u8], area: &mut [u32]) {
-    let c = job.cipher;
-    let position = job.position;
-    let progress = job.progress;
-    let done = lab::set_up_at(c.code(), key, iv, area, position);
-    let refusal = done.refusal;
-    if refusal != 0 {
-        refuse_job(rt, job, refusal);
-        return;
+    // What is said where the engine refuses the key, the IV or the position.
+    fn refused(&self, refusal: Refusal) -> Stop<'a> {
+        let size = self.cipher.key_bytes();
+        let position = self.position;
+        match refusal {
+            Refusal::KeyLength => Stop::Length {
+                what: self.key_path,
+                refusal,
+                size,
+            },
+            Refusal::IvLength => Stop::Length {
+                what: self.iv_path,
+                refusal,
+                size,
+            },
+            _ => Stop::Position { position, refusal },
+        }
     }
-    let head = done.head;
-    log::run(rt, head, area, progress);
-}
-
-// Writes bytes into the new file that a word names.
-fn save(rt: &impl Runtime, i: usize, bytes: &[u8]) {
-    let mut buffer = [0u8; 4096];
-    files::save(rt, words::word(rt, i, &mut buffer), bytes);
-}
-
-// Writes the checkpoint of a key and an IV.
-fn write_checkpoint(
-    rt: &impl Runtime,
-    job: Job,
-    key: &[u8],
-    iv: &[u8],
-    area: &mut [u32],
-    lent: &mut [u8],
-) {
-    let c = job.cipher;
-    let position = job.position;
-    let done = lab::write_at(c.code(), key, iv, area, position, lent);
-    let answer = done.answer;
-    let refusal = answer.refusal;
-    if refusal != 0 {
-        refuse_job(rt, job, refusal);
-        return;
-    }
-    let n = answer.length;
-    save(rt, 6, &lent[..n]);
-}
-
-// Does a job with a key and an IV on an area of the cipher's size.
-fn do_job(rt: &impl Runtime, job: Job, key: &[u8], iv: &[u8], area: &mut [u32]) {
-    let writes = job.writes;
-    if writes {
-        let mut lent = [0u8; 8197];
-        let c = job.cipher;
-        let n = sizes::checkpoint_part(c, job.position, &lent);
-        write_checkpoint(rt, job, key, iv, area, &mut lent[..n]);
-    } else {
-        cipher_log(rt, job, key, iv, area);
-    }
-}
-
-// Makes the area of the cipher's size.
-fn with_area(rt: &impl Runtime, job: Job, key: &[u8], iv: &[u8]) {
-    let mut area = [0u32; 2048];
-    let c = job.cipher;
-    let n = sizes::area_part(c, &area);
-    do_job(rt, job, key, iv, &mut area[..n]);
-}
-
-// Reads the IV, which the fifth word names.
-fn with_iv(rt: &impl Runtime, job: Job, key: &[u8]) {
-    let mut iv = [0u8; 33];
-    let c = job.cipher;
-    let got = files::read_word(rt, 4, c.key_bytes(), &mut iv);
-    let ok = got.ok;
-    let n = got.n;
-    if ok {
-        with_area(rt, job, key, &iv[..n]);
-    }
-}
-
-// Reads the key, which the fourth word names.
-fn with_key(rt: &impl Runtime, job: Job) {
-    let mut key = [0u8; 33];
-    let c = job.cipher;
-    let got = files::read_word(rt, 3, c.key_bytes(), &mut key);
-    let ok = got.ok;
-    let n = got.n;
-    if ok {
-        with_iv(rt, job, &key[..n]);
-    }
-}
-
-// Begins a job, unless a word of it is no cipher or no position.
-fn begin(rt: &impl Runtime, position: Position, writes: bool, progress: bool) {
-    let ok = position.ok;
-    let value = position.value;
-    if !ok {
-        return;
-    }
-    let code = code(rt);
-    let known = cipher::by_code(code);
-    let Known::Is(c) = known else {
-        return;
-    };
-    with_key(
-        rt,
-        Job {
-            cipher: c,
-            position: value,
-            writes: writes,
-            progress: progress,
-        },
-    );
 }
 
 // cipher CIPHER KEYFILE IVFILE [FROM] [--progress]
-pub fn cipher(rt: &impl Runtime) {
-    let line = read_line(rt, b"--progress");
-    let words = line.words;
-    let progress = line.option;
-    if words == 5 {
-        begin(rt, Position { ok: true, value: 0 }, false, progress);
-    } else if words == 6 {
-        begin(rt, read_position(rt, 5), false, progress);
-    } else {
-        say::usage(rt);
+pub fn cipher<'a>(rt: &(impl Runtime + AllocGlobal), words: &'a [String]) -> Result<(), Stop<'a>> {
+    let (words, progress) = without_option(words, "--progress");
+    let start = match words {
+        [cipher, key, iv] => Start::read(rt, 0, cipher, key, iv)?,
+        [cipher, key, iv, from] => Start::read(rt, position_of(from)?, cipher, key, iv)?,
+        _ => return Err(Stop::Usage),
+    };
+    let mut area = vec![in rt.alloc(); 0u32; start.cipher.area_words()]?;
+    let code = start.cipher.code();
+    let next = lab::set_up_at(code, &start.key, &start.iv, &mut area, start.position);
+    match next.answer {
+        Ok(()) => log::run(rt, next.head, &mut area, progress),
+        Err(refusal) => Err(start.refused(refusal)),
     }
 }
 
+// As many bytes as a checkpoint at a position has, and none where there is no such checkpoint.
+fn checkpoint_room(
+    rt: &impl AllocGlobal,
+    cipher: Cipher,
+    position: u64,
+) -> Result<Vec<u8>, Stop<'static>> {
+    let length = engine::checkpoint_length(cipher.code(), position).unwrap_or(0);
+    Ok(vec![in rt.alloc(); 0u8; length]?)
+}
+
 // write CIPHER KEYFILE IVFILE POSITION NEWCHECKPOINT
-pub fn write(rt: &impl Runtime) {
-    if words::count(rt) == 7 {
-        begin(rt, read_position(rt, 5), true, false);
-    } else {
-        say::usage(rt);
+pub fn write<'a>(rt: &(impl Runtime + AllocGlobal), words: &'a [String]) -> Result<(), Stop<'a>> {
+    let [cipher, key, iv, position, path] = words else {
+        return Err(Stop::Usage);
+    };
+    let start = Start::read(rt, position_of(position)?, cipher, key, iv)?;
+    let mut area = vec![in rt.alloc(); 0u32; start.cipher.area_words()]?;
+    let mut lent = checkpoint_room(rt, start.cipher, start.position)?;
+    let code = start.cipher.code();
+    let next = lab::write_at(
+        code,
+        &start.key,
+        &start.iv,
+        &mut area,
+        start.position,
+        &mut lent,
+    );
+    match next.answer {
+        Ok(length) => {
+            lent.truncate(length);
+            files::save(rt, path, &lent)
+        }
+        Err(refusal) => Err(start.refused(refusal)),
     }
 }
 
 // ---- the commands that begin with a checkpoint
 
-// Deciphers a log from byte 0 on.
-fn open_log(rt: &impl Runtime, string: &[u8], area: &mut [u32], progress: bool) {
-    let done = lab::open_checkpoint(string, area);
-    let refusal = done.refusal;
-    if refusal != 0 {
-        refuse(rt, 2, refusal);
-        return;
-    }
-    let head = done.head;
-    log::run(rt, head, area, progress);
+// Reads a checkpoint.
+fn read_checkpoint<'a>(
+    rt: &(impl Runtime + AllocGlobal),
+    path: &'a str,
+) -> Result<Vec<u8>, Stop<'a>> {
+    files::read(rt, path, CHECKPOINT_BYTES, CHECKPOINT_BYTES)
 }
 
-// Makes the area for a checkpoint and deciphers the log.
-fn open_string(rt: &impl Runtime, string: &[u8], progress: bool) {
-    let mut area = [0u32; 2048];
-    let n = sizes::area_part(lab::cipher_of(string), &area);
-    open_log(rt, string, &mut area[..n], progress);
-}
-
-// Whether the checkpoint is a file, as `open` has the log on standard input.
-fn is_file(rt: &(impl Env + Eprint)) -> bool {
-    let mut buffer = [0u8; 4096];
-    let path = words::word(rt, 2, &mut buffer);
-    if files::is_standard(path) {
-        say::wrong(
-            rt,
-            path,
-            "open reads the log from standard input, so CHECKPOINT is a file.",
-        );
-        return false;
-    }
-    true
+// An area for the tables of a checkpoint.
+fn area_for(rt: &impl AllocGlobal, string: &[u8]) -> Result<Vec<u32>, Stop<'static>> {
+    Ok(vec![in rt.alloc(); 0u32; lab::cipher_of(string).area_words()]?)
 }
 
 // open CHECKPOINT [--progress]
-pub fn open(rt: &impl Runtime) {
-    let line = read_line(rt, b"--progress");
-    let words = line.words;
-    let progress = line.option;
-    if words != 3 {
-        say::usage(rt);
-        return;
+pub fn open<'a>(rt: &(impl Runtime + AllocGlobal), words: &'a [String]) -> Result<(), Stop<'a>> {
+    let (words, progress) = without_option(words, "--progress");
+    let [path] = words else {
+        return Err(Stop::Usage);
+    };
+    if files::is_standard(path) {
+        return Err(Stop::Word {
+            word: path,
+            sentence: "open reads the log from standard input, so CHECKPOINT is a file.",
+        });
     }
-    if !is_file(rt) {
-        return;
+    let string = read_checkpoint(rt, path)?;
+    let mut area = area_for(rt, &string)?;
+    let next = lab::open_checkpoint(&string, &mut area);
+    match next.answer {
+        Ok(()) => log::run(rt, next.head, &mut area, progress),
+        Err(refusal) => Err(Stop::Refused {
+            what: path,
+            refusal,
+        }),
     }
-    let mut string = [0u8; 8198];
-    let got = files::read_word(rt, 2, 8198, &mut string);
-    let ok = got.ok;
-    let n = got.n;
-    if ok {
-        open_string(rt, &string[..n], progress);
-    }
-}
-
-// Writes the checkpoint at another position.
-fn save_at(rt: &impl Runtime, string: &[u8], area: &mut [u32], position: u64, lent: &mut [u8]) {
-    let done = lab::rewrite_at(string, area, position, lent);
-    let answer = done.answer;
-    let refusal = answer.refusal;
-    if refusal == 6 {
-        say::refused_position(rt, position, refusal);
-        return;
-    }
-    if refusal != 0 {
-        refuse(rt, 2, refusal);
-        return;
-    }
-    let n = answer.length;
-    save(rt, 4, &lent[..n]);
-}
-
-// Makes the area, and as many bytes as the checkpoint at another position has.
-fn at_string(rt: &impl Runtime, string: &[u8], position: u64) {
-    let mut area = [0u32; 2048];
-    let mut lent = [0u8; 8197];
-    let c = lab::cipher_of(string);
-    let n = sizes::area_part(c, &area);
-    let m = sizes::checkpoint_part(c, position, &lent);
-    save_at(rt, string, &mut area[..n], position, &mut lent[..m]);
 }
 
 // at CHECKPOINT POSITION NEWCHECKPOINT
-pub fn at(rt: &impl Runtime) {
-    if words::count(rt) != 5 {
-        say::usage(rt);
-        return;
+pub fn at<'a>(rt: &(impl Runtime + AllocGlobal), words: &'a [String]) -> Result<(), Stop<'a>> {
+    let [path, position, new_path] = words else {
+        return Err(Stop::Usage);
+    };
+    let position = position_of(position)?;
+    let string = read_checkpoint(rt, path)?;
+    let mut area = area_for(rt, &string)?;
+    let mut lent = checkpoint_room(rt, lab::cipher_of(&string), position)?;
+    let next = lab::rewrite_at(&string, &mut area, position, &mut lent);
+    match next.answer {
+        Ok(length) => {
+            lent.truncate(length);
+            files::save(rt, new_path, &lent)
+        }
+        Err(refusal @ Refusal::PastLimit) => Err(Stop::Position { position, refusal }),
+        Err(refusal) => Err(Stop::Refused {
+            what: path,
+            refusal,
+        }),
     }
-    let to = read_position(rt, 3);
-    let is = to.ok;
-    let value = to.value;
-    if !is {
-        return;
-    }
-    let mut string = [0u8; 8198];
-    let got = files::read_word(rt, 2, 8198, &mut string);
-    let ok = got.ok;
-    let n = got.n;
-    if ok {
-        at_string(rt, &string[..n], value);
+}
+
+// The key and the IV of a checkpoint, or why the engine refuses it.
+#[derive(Drop)]
+struct Secret {
+    key: Vec<u8>,
+    iv: Vec<u8>,
+    answer: Result<(), Refusal>,
+}
+
+impl Secret {
+    fn of(rt: &impl AllocGlobal, string: &[u8], area: &mut [u32]) -> Result<Secret, Stop<'static>> {
+        let cipher = lab::cipher_of(string);
+        let mut key = vec![in rt.alloc(); 0u8; cipher.key_bytes()]?;
+        let mut iv = vec![in rt.alloc(); 0u8; cipher.iv_bytes()]?;
+        let answer = lab::recover_from(string, area, &mut key, &mut iv).answer;
+        Ok(Secret { key, iv, answer })
     }
 }
 
 // Makes both files before a byte is written; where the second cannot be made, the first is removed again.
-fn save_both(rt: &impl Runtime, key_path: &str, key: &[u8], iv_path: &str, iv: &[u8]) {
-    let Some(k) = files::make(rt, key_path) else {
-        return;
+fn save_both<'a>(
+    rt: &impl Runtime,
+    key_path: &'a str,
+    key: &[u8],
+    iv_path: &'a str,
+    iv: &[u8],
+) -> Result<(), Stop<'a>> {
+    let key_file = files::make(rt, key_path)?;
+    let iv_file = match files::make(rt, iv_path) {
+        Ok(file) => file,
+        Err(stop) => {
+            files::remove(rt, key_path);
+            return Err(stop);
+        }
     };
-    let Some(v) = files::make(rt, iv_path) else {
-        files::remove(rt, key_path);
-        return;
-    };
-    let stored = files::store(rt, k, key_path, key);
-    if !files::store(rt, v, iv_path, iv) || !stored {
+    let key_stored = files::store(rt, key_file, key_path, key);
+    let iv_stored = files::store(rt, iv_file, iv_path, iv);
+    if key_stored.is_err() || iv_stored.is_err() {
         files::remove(rt, key_path);
         files::remove(rt, iv_path);
     }
-}
-
-// Writes a key and an IV into the new files that the fourth and the fifth word name.
-fn save_key_and_iv(rt: &impl Runtime, key: &[u8], iv: &[u8]) {
-    let mut key_buffer = [0u8; 4096];
-    let key_path = words::word(rt, 3, &mut key_buffer);
-    let mut iv_buffer = [0u8; 4096];
-    let iv_path = words::word(rt, 4, &mut iv_buffer);
-    save_both(rt, key_path, key, iv_path, iv);
-}
-
-// Writes the key and the IV of a checkpoint.
-fn recover_string(
-    rt: &impl Runtime,
-    string: &[u8],
-    area: &mut [u32],
-    key: &mut [u8],
-    iv: &mut [u8],
-) {
-    let done = lab::recover_from(string, area, key, iv);
-    let refusal = done.refusal;
-    if refusal != 0 {
-        refuse(rt, 2, refusal);
-        return;
+    if let Err(stop) = key_stored {
+        stop.say(rt);
     }
-    save_key_and_iv(rt, key, iv);
-}
-
-// Makes the area and the buffers for the key and the IV of a checkpoint.
-fn recover_into(rt: &impl Runtime, string: &[u8]) {
-    let mut area = [0u32; 2048];
-    let mut key = [0u8; 32];
-    let mut iv = [0u8; 32];
-    let c = lab::cipher_of(string);
-    let n = sizes::area_part(c, &area);
-    let k = sizes::key_part(c, &key);
-    let v = sizes::key_part(c, &iv);
-    recover_string(rt, string, &mut area[..n], &mut key[..k], &mut iv[..v]);
+    iv_stored
 }
 
 // recover CHECKPOINT KEYFILE IVFILE
-pub fn recover(rt: &impl Runtime) {
-    if words::count(rt) != 5 {
-        say::usage(rt);
-        return;
-    }
-    let mut string = [0u8; 8198];
-    let got = files::read_word(rt, 2, 8198, &mut string);
-    let ok = got.ok;
-    let n = got.n;
-    if ok {
-        recover_into(rt, &string[..n]);
-    }
-}
-
-// A line of a description: a name and bytes in hexadecimal.
-fn put_bytes(rt: &impl Print, name: &str, bytes: &[u8]) -> io::Result<()> {
-    print!(rt; "{name}")?;
-    for byte in bytes {
-        print!(rt; "{byte:02x}")?;
-    }
-    println!(rt)
-}
-
-// The name of a cipher.
-fn name(c: Cipher) -> &'static str {
-    match c {
-        Cipher::Hc128 => "hc128",
-        Cipher::Hc256 => "hc256",
+pub fn recover<'a>(rt: &(impl Runtime + AllocGlobal), words: &'a [String]) -> Result<(), Stop<'a>> {
+    let [path, key_path, iv_path] = words else {
+        return Err(Stop::Usage);
+    };
+    let string = read_checkpoint(rt, path)?;
+    let mut area = area_for(rt, &string)?;
+    let secret = Secret::of(rt, &string, &mut area)?;
+    match secret.answer {
+        Ok(()) => save_both(rt, key_path, &secret.key, iv_path, &secret.iv),
+        Err(refusal) => Err(Stop::Refused {
+            what: path,
+            refusal,
+        }),
     }
 }
 
-// A byte as a cipher code.
-fn wide_code(byte: u8) -> u32 {
-    byte as u32
-}
+// Bytes in hexadecimal.
+#[derive(Clone, Copy)]
+struct Hex<'a>(&'a [u8]);
 
-// The cipher that the first byte of a checkpoint names.
-fn put_cipher(rt: &impl Print, string: &[u8]) -> io::Result<()> {
-    if string.len() == 0 {
-        return println!(rt; "cipher: none");
-    }
-    let known = cipher::by_code(wide_code(string[0]));
-    match known {
-        Known::Is(c) => println!(rt; "cipher: {}", name(c)),
-        Known::Unknown => println!(rt; "cipher: none"),
+impl fmt::Display for Hex<'_> {
+    fn fmt<W: fmt::Write>(&self, f: &mut fmt::Formatter<W>) -> fmt::Result {
+        for byte in self.0 {
+            write!(f, "{byte:02x}")?;
+        }
+        Ok(())
     }
 }
 
-// The position that a checkpoint states.
-fn put_position(rt: &impl Print, string: &[u8]) -> io::Result<()> {
-    let number = lab::position_in(string);
-    match number {
-        Number::Is(value) => println!(rt; "position: {value}"),
-        Number::Not => println!(rt; "position: none"),
+// The name of the cipher that the first byte of a checkpoint names.
+fn name_in(string: &[u8]) -> &'static str {
+    match string.first() {
+        Some(1) => "hc128",
+        Some(2) => "hc256",
+        _ => "none",
     }
 }
 
 // Whether a checkpoint loads, and then how far the keystream is spent after the load.
 fn put_load(rt: &impl Print, string: &[u8], area: &mut [u32]) -> io::Result<()> {
     let loaded = Head::fresh().load(area, string);
-    let answer = loaded.answer;
-    let refusal = answer.refusal;
-    if refusal != 0 {
-        let why = say::meaning(refusal);
-        return println!(rt; "loads: refusal {refusal}: {why}");
+    if let Err(refusal) = loaded.answer {
+        return println!(rt; "loads: {}", Numbered(refusal));
     }
-    let head = loaded.head;
-    let counted = head.spent();
-    let spent = counted.answer;
-    let count = spent.count;
-    println!(rt; "spent: {count}, where a load starts it; the box may have spent more")?;
+    let spent = loaded.head.spent().answer.unwrap_or(0);
+    println!(rt; "spent: {spent}, where a load starts it; the box may have spent more")?;
     println!(rt; "loads: accepted")
 }
 
-// The key and the IV of a checkpoint that loads.
-fn put_secret(
-    rt: &impl Print,
-    string: &[u8],
-    area: &mut [u32],
-    key: &mut [u8],
-    iv: &mut [u8],
-) -> io::Result<()> {
-    let done = lab::recover_from(string, area, key, iv);
-    let refusal = done.refusal;
-    if refusal == 0 {
-        put_bytes(rt, "key: ", key)?;
-        put_bytes(rt, "iv: ", iv)?;
-    }
-    Ok(())
-}
-
-// Describes a checkpoint, with an area of its cipher's size.
-fn describe_area(rt: &impl Print, string: &[u8], secret: bool, area: &mut [u32]) -> io::Result<()> {
-    put_cipher(rt, string)?;
-    put_position(rt, string)?;
-    put_load(rt, string, area)?;
-    if secret {
-        let mut key = [0u8; 32];
-        let mut iv = [0u8; 32];
-        let c = lab::cipher_of(string);
-        let k = sizes::key_part(c, &key);
-        let v = sizes::key_part(c, &iv);
-        put_secret(rt, string, area, &mut key[..k], &mut iv[..v])?;
-    }
-    Ok(())
-}
-
-// Makes the area for a checkpoint and describes it.
-fn describe_string(rt: &impl Print, string: &[u8], secret: bool) -> io::Result<()> {
-    let mut area = [0u32; 2048];
-    let n = sizes::area_part(lab::cipher_of(string), &area);
-    describe_area(rt, string, secret, &mut area[..n])
-}
-
 // describe CHECKPOINT [--secret]
-pub fn describe(rt: &impl Runtime) -> io::Result<()> {
-    let line = read_line(rt, b"--secret");
-    let words = line.words;
-    let secret = line.option;
-    if words != 3 {
-        say::usage(rt);
-        return Ok(());
+pub fn describe<'a>(
+    rt: &(impl Runtime + AllocGlobal),
+    words: &'a [String],
+) -> Result<(), Stop<'a>> {
+    let (words, secret) = without_option(words, "--secret");
+    let [path] = words else {
+        return Err(Stop::Usage);
+    };
+    let string = read_checkpoint(rt, path)?;
+    let mut area = area_for(rt, &string)?;
+    println!(rt; "cipher: {}", name_in(&string))?;
+    match lab::position_in(&string) {
+        Some(position) => println!(rt; "position: {position}")?,
+        None => println!(rt; "position: none")?,
     }
-    let mut string = [0u8; 8198];
-    let got = files::read_word(rt, 2, 8198, &mut string);
-    let ok = got.ok;
-    let n = got.n;
-    if !ok {
-        return Ok(());
+    put_load(rt, &string, &mut area)?;
+    if secret {
+        let secret = Secret::of(rt, &string, &mut area)?;
+        if secret.answer.is_ok() {
+            println!(rt; "key: {}", Hex(&secret.key))?;
+            println!(rt; "iv: {}", Hex(&secret.iv))?;
+        }
     }
-    describe_string(rt, &string[..n], secret)
+    Ok(())
 }
 
 // ---- the command with two checkpoints
 
-// Says which of two checkpoints is refused: the first where it is refused beside itself, else the second. Two ciphers are said of the second.
-fn refuse_pair(rt: &(impl Env + Eprint), first: &[u8], refusal: u64) {
-    let alone = same_run::same_run(first, first);
-    if alone.refusal != 0 {
-        refuse(rt, 2, refusal);
-    } else {
-        refuse(rt, 3, refusal);
-    }
-}
-
-// Says whether two checkpoints are of one run.
-fn put_same_run(rt: &(impl Env + Print + Eprint), first: &[u8], second: &[u8]) -> io::Result<()> {
-    let answer = same_run::same_run(first, second);
-    let refusal = answer.refusal;
-    if refusal != 0 {
-        refuse_pair(rt, first, refusal);
-        return Ok(());
-    }
-    let yes = answer.yes;
-    if yes {
-        println!(rt; "same run: yes")
-    } else {
-        println!(rt; "same run: no")
-    }
-}
-
-// Reads the second checkpoint, which the fourth word names.
-fn with_second(rt: &impl Runtime, first: &[u8]) -> io::Result<()> {
-    let mut second = [0u8; 8198];
-    let got = files::read_word(rt, 3, 8198, &mut second);
-    let ok = got.ok;
-    let n = got.n;
-    if !ok {
-        return Ok(());
-    }
-    put_same_run(rt, first, &second[..n])
-}
-
-// Whether a word of the command line is `-`.
-fn is_dash(rt: &impl Env, i: usize) -> bool {
-    let mut buffer = [0u8; 4096];
-    files::is_standard(words::word(rt, i, &mut buffer))
-}
-
 // same-run CHECKPOINT CHECKPOINT
-pub fn same_run(rt: &impl Runtime) -> io::Result<()> {
-    if words::count(rt) != 4 {
-        say::usage(rt);
-        return Ok(());
+pub fn same_run<'a>(
+    rt: &(impl Runtime + AllocGlobal),
+    words: &'a [String],
+) -> Result<(), Stop<'a>> {
+    let [first_path, second_path] = words else {
+        return Err(Stop::Usage);
+    };
+    if files::is_standard(first_path) && files::is_standard(second_path) {
+        return Err(Stop::Word {
+            word: first_path,
+            sentence: "standard input can be one of the two checkpoints, and not both.",
+        });
     }
-    if is_dash(rt, 2) && is_dash(rt, 3) {
-        say::wrong(
-            rt,
-            "-",
-            "standard input can be one of the two checkpoints, and not both.",
-        );
-        return Ok(());
+    let first = read_checkpoint(rt, first_path)?;
+    let second = read_checkpoint(rt, second_path)?;
+    match same_run::same_run(&first, &second) {
+        Ok(true) => println!(rt; "same run: yes")?,
+        Ok(false) => println!(rt; "same run: no")?,
+        Err(refusal) => {
+            // the first is refused where it is refused beside itself; two ciphers are said of the second
+            let what = match same_run::same_run(&first, &first) {
+                Ok(_) => second_path,
+                Err(_) => first_path,
+            };
+            return Err(Stop::Refused { what, refusal });
+        }
     }
-    let mut first = [0u8; 8198];
-    let got = files::read_word(rt, 2, 8198, &mut first);
-    let ok = got.ok;
-    let n = got.n;
-    if !ok {
-        return Ok(());
-    }
-    with_second(rt, &first[..n])
+    Ok(())
 }

@@ -1,14 +1,14 @@
 // A log through the cipher, from standard input to standard output, in a buffer of fixed size.
 ghost use Rattle.hullerbamboo.specs.Turn.{Grows};
 
-use crate::say;
+use crate::say::Stop;
 use engine::Head;
-use lab::Number;
-use std::fs;
-use std::fs::Metadata;
+use refusal::Refusal;
 use std::io::{Read, Seek, SeekFrom};
+use std::ops::ControlFlow;
 use std::os::unix::fs::FileTypeExt;
 use std::rt::{Files, Runtime};
+use std::{fs, str};
 
 // How often `--progress` says how much is done, in bytes.
 const STRIDE: u64 = 4_194_304;
@@ -18,137 +18,42 @@ const INPUT: &str = "/proc/self/fd/0";
 
 const INPUT_STATE: &str = "/proc/self/fdinfo/0";
 
-// Whether standard input can be read, and says so where it cannot, as where it is a folder.
-fn is_readable(rt: &(impl Eprint + Alloc), input: &mut impl Read) -> bool {
-    let mut none = [0u8; 0];
-    match input.read(&mut none) {
-        Ok(_) => true,
-        Err(e) => {
-            say::failed(rt, "standard input", &e);
-            false
-        }
-    }
+// The number of a line `pos:`, a tabulator and the number, with which a text begins.
+fn position_in(text: &[u8]) -> Option<i64> {
+    let (line, _) = str::from_utf8(text).ok()?.split_once('\n')?;
+    let number = line.strip_prefix("pos:\t")?;
+    i64::try_from(lab::decimal(number.as_bytes())?).ok()
 }
 
-// The number of a line `pos:`, a tabulator and the number, with which a text begins; below 0 where there is none.
-fn position_in(text: &[u8]) -> i64 {
-    let mut i = 5;
-    while i < text.len() {
-        if text[i] == b'\n' {
-            return signed(lab::decimal(&text[5..i]));
-        }
-        i += 1;
-    }
-    -1
-}
-
-// A number as a place of a file, below 0 where it is none.
-fn signed(number: Number) -> i64 {
-    match number {
-        Number::Is(value) => i64::try_from(value).unwrap_or(-1),
-        Number::Not => -1,
-    }
-}
-
-// Where reading stands in standard input, below 0 where the system does not say it.
-fn here(rt: &impl Files) -> i64 {
+// Where reading stands in standard input, where the system says it.
+fn here(rt: &impl Files) -> Option<i64> {
     let mut text = [0u8; 64];
-    let Ok(mut file) = fs::open(rt, INPUT_STATE) else {
-        return -1;
+    let mut file = fs::open(rt, INPUT_STATE).ok()?;
+    let n = file.read(&mut text).ok()?;
+    position_in(&text[..n])
+}
+
+// The end of standard input where it can be measured, a file or a device of blocks, and not in a pipe.
+fn end(rt: &impl Files) -> Option<i64> {
+    let input = fs::metadata(rt, INPUT).ok()?;
+    let end = if input.is_file() {
+        input.len()
+    } else if input.file_type().is_block_device() {
+        fs::open(rt, INPUT).ok()?.seek(SeekFrom::End(0)).ok()?
+    } else {
+        return None;
     };
-    match file.read(&mut text) {
-        Ok(n) => position_in(&text[..n]),
-        Err(_) => -1,
-    }
+    i64::try_from(end).ok()
 }
 
-// The end of a device that standard input is, below 0 where it cannot be measured.
-fn end_of_device(rt: &impl Files) -> i64 {
-    let Ok(mut device) = fs::open(rt, INPUT) else {
-        return -1;
-    };
-    match device.seek(SeekFrom::End(0)) {
-        Ok(end) => i64::try_from(end).unwrap_or(-1),
-        Err(_) => -1,
-    }
+// The length of what is left of standard input where it can be measured.
+fn measure_input(rt: &impl Files) -> Option<u64> {
+    let end = end(rt)?;
+    Some(lab::span(here(rt)?, end))
 }
 
-// The end of standard input where it can be measured, a file or a device of blocks, and below 0 where it cannot, as in a pipe.
-fn end(rt: &impl Files, input: &Metadata) -> i64 {
-    if input.is_file() {
-        return i64::try_from(input.len()).unwrap_or(-1);
-    }
-    if input.file_type().is_block_device() {
-        return end_of_device(rt);
-    }
-    -1
-}
-
-// The length of what is left of standard input where it can be measured, as in a file, and 0 where it cannot, as in a pipe.
-fn measure_input(rt: &impl Files) -> u64 {
-    match fs::metadata(rt, INPUT) {
-        Ok(input) => lab::span(here(rt), end(rt, &input)),
-        Err(_) => 0,
-    }
-}
-
-// The bytes from one position to another, 0 where the second is not after the first.
-fn since(from: u64, position: u64) -> u64 {
-    if position < from {
-        return 0;
-    }
-    position - from
-}
-
-// What one turn of the loop leaves: whether to go on, and the head, which has passed the bytes that could not be written too.
-#[derive(Clone, Copy)]
-pub struct Turn {
-    pub more: bool,
-    pub head: Head,
-}
-
-// The end of the loop.
-fn last(head: Head) -> Turn
-    ensures { Grows head result }
-{
-    Turn {
-        more: false,
-        head: head,
-    }
-}
-
-// Ciphers the bytes that were read and writes them.
-fn pass_on(
-    rt: &(impl Print + Eprint + Alloc),
-    head: Head,
-    area: &mut [u32],
-    bytes: &mut [u8],
-    from: u64,
-) -> Turn
-    ensures { Grows head result }
-{
-    if bytes.len() == 0 {
-        return last(head);
-    }
-    let done = lab::cipher_next(head, area, bytes);
-    let refusal = done.refusal;
-    if refusal != 0 {
-        let position = head.position;
-        say::refused_after(rt, refusal, since(from, position));
-        return last(head);
-    }
-    let next = done.head;
-    if let Err(e) = rt.write_all(bytes) {
-        say::failed(rt, "standard output", &e);
-        return last(next);
-    }
-    Turn {
-        more: true,
-        head: next,
-    }
-}
-
-// One turn: reads what there is, up to the buffer's length, and passes it on.
+// One turn: reads what there is, up to the buffer's length, ciphers it and writes it. Leaves the head with which to go on, or with which the log ended,
+// which has passed the bytes that could not be written too.
 fn take_turn(
     rt: &(impl Print + Eprint + Alloc),
     input: &mut impl Read,
@@ -156,73 +61,86 @@ fn take_turn(
     area: &mut [u32],
     buffer: &mut [u8],
     from: u64,
-) -> Turn
+) -> ControlFlow<Head, Head>
     ensures { Grows head result }
 {
-    match input.read(buffer) {
-        Ok(n) => pass_on(rt, head, area, &mut buffer[..n], from),
-        Err(e) => {
-            say::failed(rt, "standard input", &e);
-            last(head)
+    let n = match input.read(buffer) {
+        Ok(0) => return ControlFlow::Break(head),
+        Ok(n) => n,
+        Err(error) => {
+            Stop::System {
+                what: "standard input",
+                error,
+            }
+            .say(rt);
+            return ControlFlow::Break(head);
         }
+    };
+    let bytes = &mut buffer[..n];
+    let next = lab::cipher_next(head, area, bytes);
+    if let Err(refusal) = next.answer {
+        let written = head.position.saturating_sub(from);
+        Stop::After { written, refusal }.say(rt);
+        return ControlFlow::Break(head);
     }
+    if let Err(error) = rt.write_all(bytes) {
+        Stop::from(error).say(rt);
+        return ControlFlow::Break(next.head);
+    }
+    ControlFlow::Continue(next.head)
 }
 
-// Says how much is done where another stride is full.
-fn report(rt: &impl Eprint, from: u64, before: u64, after: u64) {
-    let done = since(from, after);
-    if since(from, before) / STRIDE < done / STRIDE {
-        say::progress(rt, done);
-    }
-}
-
-// Says how much was done up to a position, and how far the keystream is spent by a head, also by bytes that could not be written.
-fn report_end(rt: &impl Eprint, from: u64, position: u64, head: Head) {
-    say::total(rt, since(from, position));
-    let counted = head.spent();
-    let spent = counted.answer;
-    say::spent(rt, spent.count);
+// Says how much was done, and how far the keystream is spent by a head, also by bytes that could not be written.
+fn report_end(rt: &impl Eprint, done: u64, last: Head) {
+    let spent = last.spent().answer.unwrap_or(0);
+    let _ = eprintln!(rt; "hullerbamboo: {done} bytes in all");
+    let _ = eprintln!(rt; "hullerbamboo: spent: {spent}");
 }
 
 // Turn after turn, to the end of the log. It ends because each turn but the last takes the position closer to the limit.
 fn turns(
     rt: &(impl Print + Eprint + Alloc),
     input: &mut impl Read,
-    head: Head,
+    mut head: Head,
     area: &mut [u32],
-    buffer: &mut [u8],
     progress: bool,
 ) {
     let from = head.position;
-    let mut h = head;
-    loop {
-        let t = take_turn(rt, input, h, area, buffer, from);
-        let more = t.more;
-        let next = t.head;
-        if !more {
-            if progress {
-                report_end(rt, from, h.position, next);
-            }
-            break;
+    let mut buffer = [0u8; 65536];
+    let last = loop {
+        let done = head.position.saturating_sub(from);
+        match take_turn(rt, input, head, area, &mut buffer, from) {
+            ControlFlow::Continue(next) => head = next,
+            ControlFlow::Break(last) => break last,
         }
-        if progress {
-            report(rt, from, h.position, next.position);
+        let more = head.position.saturating_sub(from);
+        if progress && done / STRIDE < more / STRIDE {
+            let _ = eprintln!(rt; "hullerbamboo: {more} bytes done");
         }
-        h = next;
+    };
+    if progress {
+        report_end(rt, head.position.saturating_sub(from), last);
     }
 }
 
 // The whole log, from the head's position on. A log that can be measured and passes the limit is refused before a byte is written.
-pub fn run(rt: &impl Runtime, head: Head, area: &mut [u32], progress: bool) {
+pub fn run<'a>(
+    rt: &impl Runtime,
+    head: Head,
+    area: &mut [u32],
+    progress: bool,
+) -> Result<(), Stop<'a>> {
+    let what = "standard input";
     let mut input = rt.reader();
-    if !is_readable(rt, &mut input) {
-        return;
+    // standard input may be what cannot be read, as a folder
+    let mut none = [0u8; 0];
+    if let Err(error) = input.read(&mut none) {
+        return Err(Stop::System { what, error });
     }
-    let position = head.position;
-    if lab::passes_limit(position, measure_input(rt)) {
-        say::refused(rt, "standard input", 6);
-        return;
+    if lab::passes_limit(head.position, measure_input(rt).unwrap_or(0)) {
+        let refusal = Refusal::PastLimit;
+        return Err(Stop::Refused { what, refusal });
     }
-    let mut buffer = [0u8; 65536];
-    turns(rt, &mut input, head, area, &mut buffer, progress);
+    turns(rt, &mut input, head, area, progress);
+    Ok(())
 }

@@ -5,36 +5,42 @@ mod commands;
 mod files;
 mod log;
 mod say;
-mod sizes;
 mod words;
 
 use lab::Command;
-use std::io;
+use say::Stop;
 use std::rt::Runtime;
 
-// Runs the command that the first word after the program's name names. It fails where what it prints cannot be written.
-fn run(rt: &impl Runtime) -> io::Result<()> {
-    let mut buffer = [0u8; 16];
-    let word = words::word(rt, 1, &mut buffer);
-    match lab::command_of(word.as_bytes()) {
-        Command::Cipher => commands::cipher(rt),
-        Command::Describe => commands::describe(rt)?,
-        Command::Recover => commands::recover(rt),
-        Command::Open => commands::open(rt),
-        Command::At => commands::at(rt),
-        Command::Write => commands::write(rt),
-        Command::SameRun => commands::same_run(rt)?,
-        Command::Help => print!(rt; "{}", say::USAGE)?,
-        Command::Unknown => say::usage(rt),
+// Runs the command that the first word names.
+fn run<'a>(rt: &(impl Runtime + AllocGlobal), words: &'a [String]) -> Result<(), Stop<'a>> {
+    let Some((command, words)) = words.split_first() else {
+        return Err(Stop::Usage);
+    };
+    match lab::command_of(command.as_bytes()) {
+        Some(Command::Cipher) => commands::cipher(rt, words),
+        Some(Command::Describe) => commands::describe(rt, words),
+        Some(Command::Recover) => commands::recover(rt, words),
+        Some(Command::Open) => commands::open(rt, words),
+        Some(Command::At) => commands::at(rt, words),
+        Some(Command::Write) => commands::write(rt, words),
+        Some(Command::SameRun) => commands::same_run(rt, words),
+        Some(Command::Help) => Ok(print!(rt; "{}", say::USAGE)?),
+        None => Err(Stop::Usage),
     }
-    Ok(())
+}
+
+// Runs the words of the command line, and says why it stops where it does.
+fn run_line(rt: &(impl Runtime + AllocGlobal)) {
+    match words::read(rt) {
+        Ok(words) => {
+            if let Err(stop) = run(rt, &words) {
+                stop.say(rt);
+            }
+        }
+        Err(stop) => stop.say(rt),
+    }
 }
 
 fn main(rt: HostRuntime) {
-    if !words::fit(&rt) {
-        return;
-    }
-    if let Err(e) = run(&rt) {
-        say::failed(&rt, "standard output", &e);
-    }
+    run_line(&rt)
 }

@@ -1,5 +1,8 @@
-// What the program says on standard error: its usage, and a sentence for each error. A sentence that cannot be written has nowhere to go.
-use std::io;
+// What the program says on standard error: its usage, and a sentence for each reason why a command stops. A sentence that cannot be written has nowhere
+// to go.
+use refusal::Refusal;
+use std::alloc::{AllocError, AllocFailed};
+use std::{fmt, io};
 
 // How the program is used.
 pub const USAGE: &str = "usage: hullerbamboo COMMAND ..
@@ -25,18 +28,77 @@ Spent is how far keystream has been used in this run; --progress says it at the 
 It starts at 0 in cipher and at the checkpoint's position in open and describe.
 ";
 
-// Says how the program is used.
-pub fn usage(rt: &impl Eprint) {
-    let _ = eprint!(rt; "{USAGE}");
+// Why a command stops, with the word or the file that it is about.
+#[derive(Drop)]
+pub enum Stop<'a> {
+    // the words are no command's
+    Usage,
+    // a word is wrong
+    Word {
+        word: &'a str,
+        sentence: &'static str,
+    },
+    // a call of the system failed
+    System {
+        what: &'a str,
+        error: io::Error,
+    },
+    // the engine refused what a file holds
+    Refused {
+        what: &'a str,
+        refusal: Refusal,
+    },
+    // the engine refused a key or an IV, since one of this cipher has so many bytes
+    Length {
+        what: &'a str,
+        refusal: Refusal,
+        size: usize,
+    },
+    // the engine refused a position
+    Position {
+        position: u64,
+        refusal: Refusal,
+    },
+    // a log passed the limit after so many bytes of it were written
+    After {
+        written: u64,
+        refusal: Refusal,
+    },
 }
 
-// Says why a call of the system failed.
-pub fn failed(rt: &(impl Eprint + Alloc), what: &str, error: &io::Error) {
-    match format!(in rt.alloc(); "{error}") {
-        Ok(text) => wrong(rt, what, without_code(text.as_str())),
-        Err(_) => {
-            let _ = eprintln!(rt; "hullerbamboo: {what}: {error}");
+// Only standard output is written without a name.
+impl<'a> From<io::Error> for Stop<'a> {
+    fn from(error: io::Error) -> Stop<'a> {
+        Stop::System {
+            what: "standard output",
+            error,
         }
+    }
+}
+
+impl<'a> From<AllocError> for Stop<'a> {
+    fn from(error: AllocError) -> Stop<'a> {
+        Stop::System {
+            what: "memory",
+            error: io::Error::from(error),
+        }
+    }
+}
+
+impl<'a, T: Drop> From<AllocFailed<T>> for Stop<'a> {
+    fn from(error: AllocFailed<T>) -> Stop<'a> {
+        Stop::from(AllocError::from(error))
+    }
+}
+
+// A refusal with its number.
+#[derive(Clone, Copy)]
+pub struct Numbered(pub Refusal);
+
+impl fmt::Display for Numbered {
+    fn fmt<W: fmt::Write>(&self, f: &mut fmt::Formatter<W>) -> fmt::Result {
+        let refusal = self.0;
+        write!(f, "refusal {}: {refusal}", u64::from(refusal))
     }
 }
 
@@ -48,73 +110,47 @@ fn without_code(text: &str) -> &str {
     }
 }
 
-// Says what is wrong with a word or a file.
-pub fn wrong(rt: &impl Eprint, what: &str, sentence: &str) {
-    let _ = eprintln!(rt; "hullerbamboo: {what}: {sentence}");
-}
-
-// What a refusal's number means.
-pub fn meaning(refusal: u64) -> &'static str {
-    match refusal {
-        1 => "the cipher code is neither 1 nor 2",
-        2 => "the key has not the cipher's length",
-        3 => "the IV has not the cipher's length",
-        4 => "the area has not the cipher's number of words",
-        5 => "the position is over the limit of 67108864 bytes",
-        6 => "the end would pass the limit of 67108864 bytes",
-        7 => "the end would be below 0",
-        8 => "fewer bytes are lent than the checkpoint has",
-        9 => "the checkpoint is empty or ends inside its position",
-        10 => "the position is longer than four bytes or not in its shortest form",
-        11 => "the bytes after the position are not as many as the tables",
-        12 => "no key and IV have these tables at this position",
-        13 => "the word of the head is not the one that the tables have at this position",
-        23 => "the two checkpoints are of different ciphers",
-        _ => "a refusal that this program does not know",
+// Says why a call of the system failed.
+fn say_failed(rt: &(impl Eprint + Alloc), what: &str, error: &io::Error) -> io::Result<()> {
+    match format!(in rt.alloc(); "{error}") {
+        Ok(text) => eprintln!(rt; "hullerbamboo: {what}: {}", without_code(text.as_str())),
+        Err(_) => eprintln!(rt; "hullerbamboo: {what}: {error}"),
     }
 }
 
-// Says that the engine refused what a file or a word holds.
-pub fn refused(rt: &impl Eprint, what: &str, refusal: u64) {
-    let why = meaning(refusal);
-    let _ = eprintln!(rt; "hullerbamboo: {what}: refusal {refusal}: {why}.");
-}
-
-// Says that the engine refused a position.
-pub fn refused_position(rt: &impl Eprint, position: u64, refusal: u64) {
-    let why = meaning(refusal);
-    let _ = eprintln!(rt; "hullerbamboo: {position}: refusal {refusal}: {why}.");
-}
-
-// Says that a log passed the limit after some of it was written.
-pub fn refused_after(rt: &impl Eprint, refusal: u64, written: u64) {
-    let why = meaning(refusal);
-    let _ = eprintln!(rt;
-        "hullerbamboo: standard input: refusal {refusal}: {why}, after {written} bytes were written."
-    );
-}
-
-// Says that a key or an IV has a length that is not its cipher's: the refusal is 2 for a key and 3 for an IV.
-pub fn refused_length(rt: &impl Eprint, what: &str, refusal: u64, size: usize) {
-    let whose = if refusal == 2 {
-        "refusal 2: a key"
-    } else {
-        "refusal 3: an IV"
-    };
-    let _ = eprintln!(rt; "hullerbamboo: {what}: {whose} of this cipher has {size} bytes.");
-}
-
-// Says how much is done so far.
-pub fn progress(rt: &impl Eprint, done: u64) {
-    let _ = eprintln!(rt; "hullerbamboo: {done} bytes done");
-}
-
-// Says how much was done.
-pub fn total(rt: &impl Eprint, done: u64) {
-    let _ = eprintln!(rt; "hullerbamboo: {done} bytes in all");
-}
-
-// Says how far the keystream is spent.
-pub fn spent(rt: &impl Eprint, count: u64) {
-    let _ = eprintln!(rt; "hullerbamboo: spent: {count}");
+impl Stop<'_> {
+    // Says it.
+    pub fn say(&self, rt: &(impl Eprint + Alloc)) {
+        let _ = match self {
+            Stop::Usage => eprint!(rt; "{USAGE}"),
+            Stop::Word { word, sentence } => eprintln!(rt; "hullerbamboo: {word}: {sentence}"),
+            Stop::System { what, error } => say_failed(rt, what, error),
+            Stop::Refused { what, refusal } => {
+                eprintln!(rt; "hullerbamboo: {what}: {}.", Numbered(*refusal))
+            }
+            Stop::Length {
+                what,
+                refusal,
+                size,
+            } => {
+                let number = u64::from(*refusal);
+                let whose = match refusal {
+                    Refusal::KeyLength => "a key",
+                    _ => "an IV",
+                };
+                eprintln!(rt;
+                    "hullerbamboo: {what}: refusal {number}: {whose} of this cipher has {size} bytes."
+                )
+            }
+            Stop::Position { position, refusal } => {
+                eprintln!(rt; "hullerbamboo: {position}: {}.", Numbered(*refusal))
+            }
+            Stop::After { written, refusal } => {
+                eprintln!(rt;
+                    "hullerbamboo: standard input: {}, after {written} bytes were written.",
+                    Numbered(*refusal)
+                )
+            }
+        };
+    }
 }

@@ -3,5 +3,5 @@ use Rattle.std.proofs.Common.{◌-◌}
 use Rattle.conditions.specs.Limit.{limit}
 use Rattle.hullerbamboo.proofs.log.turns.Given as goal
 
-abbrev pub decreases-loop-h : goal.decreases-loop-h
-decreases-loop-h g l = limit - l.h.position
+abbrev pub decreases-loop-next : goal.decreases-loop-next
+decreases-loop-next g l = limit - l.head.position

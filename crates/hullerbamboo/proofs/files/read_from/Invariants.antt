@@ -1,9 +1,0 @@
--- The bytes that were read are no more than the buffer has.
-use Rattle.std.proofs.Common.{◌-◌, ◌≤◌, length}
-use Rattle.hullerbamboo.proofs.files.read_from.Given as goal
-
-abbrev pub invariant-loop-n : goal.invariant-loop-n
-invariant-loop-n g l = l.n ≤ length l.buffer
-
-abbrev pub decreases-loop-n : goal.decreases-loop-n
-decreases-loop-n g l = length l.initial.buffer - l.n
