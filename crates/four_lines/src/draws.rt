@@ -1,81 +1,63 @@
 // Draws: each is to get its number and to hand back its share account. Where it is accepted, head, area and bytes are to be those after the engine's
 // cipher call; where it is refused, everything is to stay.
-use crate::engine_calls::Call;
-use crate::left::{Left, kept, left_at, left_by, lent, same_left};
-use crate::lines;
-use crate::openings::not_shared;
-use crate::state::State;
-use crate::while_open::called;
-use engine::Head;
-use sharing::{ShareAccount, ShareDone};
+use crate::lines::{Words, line};
+use crate::state::{Left, State};
+use engine::answers::Next;
+use refusal::Refusal;
+use sharing::{ShareAccount, Shared};
 use std::io;
 
-// A draw of the first of these bytes, with the first of these words as area.
-fn draw_in(
-    head: Head,
-    account: ShareAccount,
-    words: &mut [u32],
-    size: usize,
-    line: u64,
-    bytes: &mut [u8],
-    n: usize,
-) -> ShareDone {
-    if words.len() < size {
-        return not_shared(head, account);
-    }
-    if bytes.len() < n {
-        return not_shared(head, account);
-    }
-    sharing::draw(head, account, &mut words[0..size], line, &mut bytes[0..n])
-}
-
 // What a draw of n bytes leaves.
-fn drawn(from: State, line: u64, n: usize) -> Left {
-    let head = from.head;
-    let account = from.account;
-    let mut words = from.words;
-    let mut bytes = lent();
-    let done = draw_in(head, account, &mut words, from.size, line, &mut bytes, n);
-    let answer = done.answer;
-    let next = done.head;
-    let given = answer.account;
-    left_by(from, answer.refusal, next, given, words, bytes)
-}
-
-// The line of a draw so far.
-fn line_of(rt: &impl Print, from: State, line: u64, n: usize, refusal: u64) -> io::Result<()> {
-    lines::start(rt, from)?;
-    lines::number(rt, " line ", line)?;
-    lines::number(rt, " draws ", n as u64)?;
-    lines::refusal(rt, refusal)
+fn drawn(from: &State, line: u64, n: usize) -> io::Result<Left> {
+    let mut state = from.with_account(from.account)?;
+    let mut bytes = from.lent(n)?;
+    let Shared {
+        head,
+        account,
+        answer,
+    } = sharing::draw(from.head, from.account, &mut state.area, line, &mut bytes);
+    state.head = head;
+    state.account = account;
+    Ok(Left {
+        answer,
+        state,
+        bytes,
+    })
 }
 
 // A draw that is accepted. Gives what it left.
 pub fn draws(
     rt: &impl Print,
-    from: State,
-    line: u64,
+    from: &State,
+    number: u64,
     n: usize,
     to: ShareAccount,
     position: u64,
     mark: u64,
 ) -> io::Result<State> {
-    let got = drawn(from, line, n);
-    let own = called(false, from, Call::Cipher(n));
-    let ok = same_left(got, own) & left_at(got, to, position, mark);
-    line_of(rt, from, line, n, 0)?;
-    lines::place(rt, position, mark)?;
-    lines::account(rt, to)?;
-    lines::end(rt, ok & (got.refusal == 0))?;
+    let got = drawn(from, number, n)?;
+    let mut own = from.after(n, |head, _, area, bytes| head.cipher(area, bytes))?;
+    own.state.account = to;
+    let head = got.state.head;
+    let is_right = got == own
+        && got.answer == Ok(())
+        && head.position == position
+        && head.mark == mark;
+    let call = format_args!("line {number} draws {n}");
+    let expected = format_args!("0, at {position} mark {mark} {}", Words(to));
+    line(rt, from, call, expected, is_right)?;
     Ok(got.state)
 }
 
 // A draw that is refused.
-pub fn no_draw(rt: &impl Print, from: State, line: u64, n: usize, refusal: u64) -> io::Result<()> {
-    let head = from.head;
-    let account = from.account;
-    let got = drawn(from, line, n);
-    let stays = left_at(got, account, head.position, head.mark);
-    line_of(rt, from, line, n, refusal)?;
-    lines::end(rt, stays & same_left(got, kept(from, refusal)))
+pub fn no_draw(
+    rt: &impl Print,
+    from: &State,
+    number: u64,
+    n: usize,
+    refusal: Refusal,
+) -> io::Result<()> {
+    let is_right = drawn(from, number, n)? == from.kept(n, refusal)?;
+    let call = format_args!("line {number} draws {n}");
+    line(rt, from, call, u64::from(refusal), is_right)
 }

@@ -1,65 +1,47 @@
-// The parts of a line.
-use crate::compare::same_account;
-use crate::state;
+// The line of a case.
 use crate::state::State;
+use engine::Head;
 use sharing::ShareAccount;
-use std::io;
+use std::fmt::Display;
+use std::{fmt, io};
 
-pub fn text(rt: &impl Print, part: &str) -> io::Result<()> {
-    print!(rt; "{part}")
-}
+// A share account in words: one word where it is that of no sharing.
+#[derive(Clone, Copy)]
+pub struct Words(pub ShareAccount);
 
-// A name and a number.
-pub fn number(rt: &impl Print, name: &str, n: u64) -> io::Result<()> {
-    print!(rt; "{name}{n}")
-}
-
-// A name and the shares of four lines.
-pub fn shares(rt: &impl Print, name: &str, of: [u64; 4]) -> io::Result<()> {
-    number(rt, name, of[0])?;
-    number(rt, " ", of[1])?;
-    number(rt, " ", of[2])?;
-    number(rt, " ", of[3])
-}
-
-// A share account, in one word where it is that of no sharing.
-pub fn account(rt: &impl Print, a: ShareAccount) -> io::Result<()> {
-    let of = a.shares;
-    if same_account(a, state::account(0, [0, 0, 0, 0], 0)) {
-        return text(rt, " closed");
+impl Display for Words {
+    fn fmt<W: fmt::Write>(&self, f: &mut fmt::Formatter<W>) -> fmt::Result {
+        if self.0 == ShareAccount::closed() {
+            return write!(f, "closed");
+        }
+        let ShareAccount {
+            shares: [a, b, c, d],
+            common,
+            opened,
+        } = self.0;
+        write!(f, "opened {opened} shares {a} {b} {c} {d} common {common}")
     }
-    number(rt, " opened ", a.opened)?;
-    shares(rt, " shares ", of)?;
-    number(rt, " common ", a.common)
 }
 
-// What a call starts from.
-pub fn start(rt: &impl Print, s: State) -> io::Result<()> {
-    let head = s.head;
-    let a = s.account;
-    number(rt, "code ", head.code as u64)?;
-    number(rt, " area ", s.size as u64)?;
-    number(rt, " at ", head.position)?;
-    if s.off != 0 {
-        number(rt, " word off by ", s.off as u64)?;
+impl Display for State {
+    fn fmt<W: fmt::Write>(&self, f: &mut fmt::Formatter<W>) -> fmt::Result {
+        let Head { code, position, .. } = self.head;
+        write!(f, "code {code} area {} at {position} ", self.area.len())?;
+        if self.off != 0 {
+            write!(f, "word off by {} ", self.off)?;
+        }
+        write!(f, "{}", Words(self.account))
     }
-    account(rt, a)?;
-    text(rt, ":")
 }
 
-// The refusal number that a call is to get.
-pub fn refusal(rt: &impl Print, n: u64) -> io::Result<()> {
-    number(rt, " gets ", n)
-}
-
-// The position and the mark that a call is to leave.
-pub fn place(rt: &impl Print, position: u64, mark: u64) -> io::Result<()> {
-    number(rt, ", at ", position)?;
-    number(rt, " mark ", mark)
-}
-
-// The end of a line.
-pub fn end(rt: &impl Print, ok: bool) -> io::Result<()> {
-    let word = if ok { "ok" } else { "wrong" };
-    println!(rt; " {word}")
+// Prints a line: what the call starts from, the call, what it is to get and to leave, and whether it does.
+pub fn line(
+    rt: &impl Print,
+    from: &State,
+    call: impl Display + Drop,
+    expected: impl Display + Drop,
+    is_right: bool,
+) -> io::Result<()> {
+    let word = if is_right { "ok" } else { "wrong" };
+    println!(rt; "{from}: {call} gets {expected} {word}")
 }

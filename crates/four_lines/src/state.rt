@@ -1,33 +1,35 @@
-// What a call starts from, a head with a share account and an area: after a set up, a cipher call and a move; and made up.
-ghost use Rattle.std.specs.Prelude.{◌≤◌};
-
+// What a call starts from, a head with a share account and an area: after a set up, a cipher call and a move; and made up. And what a call leaves.
+use cipher::Cipher;
 use engine::Head;
-use engine::answers::Done;
+use engine::answers::Next;
+use refusal::Refusal;
 use sharing::ShareAccount;
+use std::alloc::Global;
+use std::{io, iter};
 
-// A head, and what is added to its true word; a share account; and words of which the first, so many, are the area.
-#[derive(Clone, Copy)]
+// A head, and what is added to its true word; a share account; and an area.
+#[derive(Debug, PartialEq, Eq, Drop)]
 pub struct State {
     pub head: Head,
     pub off: u32,
     pub account: ShareAccount,
-    pub size: usize,
-    pub words: [u32; 2049],
+    pub area: Vec<u32>,
 }
 
-// The bytes of a cipher's key, and of its IV. Its area has 64 words for each.
-pub fn key_bytes(code: u32) -> usize
-    ensures { (1 ≤ result) × (result ≤ 32) }
-{
-    if code == 1 { 16 } else { 32 }
+// What a call left: its answer, the state after it and the bytes that it was lent.
+#[derive(Debug, PartialEq, Eq, Drop)]
+pub struct Left {
+    pub answer: Result<(), Refusal>,
+    pub state: State,
+    pub bytes: Vec<u8>,
 }
 
 // A share account of these fields.
 pub fn account(opened: u64, shares: [u64; 4], common: u64) -> ShareAccount {
     ShareAccount {
-        opened: opened,
-        shares: shares,
-        common: common,
+        opened,
+        shares,
+        common,
     }
 }
 
@@ -36,103 +38,105 @@ pub fn open(shares: [u64; 4], common: u64) -> ShareAccount {
     account(1, shares, common)
 }
 
-// The answer where a case gives more bytes or words than there are, so that no case is taken for right: no call has this number.
-pub fn not_called(head: Head) -> Done {
-    Done {
-        refusal: 99,
-        head: head,
+impl State {
+    // After a set up, with sharing closed.
+    pub fn set_up(alloc: Global, cipher: Cipher) -> io::Result<State> {
+        let key = [5; 32];
+        let iv = [6; 32];
+        let key = &key[..cipher.key_bytes()];
+        let iv = &iv[..cipher.iv_bytes()];
+        let mut area = vec![in alloc; 7; cipher.area_words()]?;
+        let head = Head::fresh().set_up(cipher.code(), key, iv, &mut area).head;
+        Ok(State {
+            head,
+            off: 0,
+            account: ShareAccount::closed(),
+            area,
+        })
     }
-}
 
-// A set up by a fresh head, with the first of these bytes as key and IV and the first of these words as area.
-fn set_up_in(code: u32, key: &[u8], iv: &[u8], words: &mut [u32]) -> Done {
-    let m = key_bytes(code);
-    let n = 64 * m;
-    let head = Head::fresh();
-    if key.len() < m {
-        return not_called(head);
+    // After a cipher call of n bytes and a move from there.
+    pub fn moved(&self, n: usize, distance: i64) -> io::Result<State> {
+        let ciphered = self
+            .after(n, |head, _, area, bytes| head.cipher(area, bytes))?
+            .state;
+        let moved = ciphered.after(0, |head, _, area, _| head.move_by(area, distance))?;
+        Ok(moved.state)
     }
-    if iv.len() < m {
-        return not_called(head);
-    }
-    if words.len() < n {
-        return not_called(head);
-    }
-    head.set_up(code, &key[0..m], &iv[0..m], &mut words[0..n])
-}
 
-// A cipher call over the first of these bytes, and then a move.
-fn cipher_and_move(head: Head, words: &mut [u32], size: usize, n: usize, distance: i64) -> Done {
-    let mut bytes = [0u8; 16];
-    let lent: &mut [u8] = &mut bytes;
-    if words.len() < size {
-        return not_called(head);
+    // With another share account.
+    pub fn with_account(&self, account: ShareAccount) -> io::Result<State> {
+        let area = self.area.clone()?;
+        Ok(State {
+            head: self.head,
+            off: self.off,
+            account,
+            area,
+        })
     }
-    if lent.len() < n {
-        return not_called(head);
-    }
-    let done = head.cipher(&mut words[0..size], &mut lent[0..n]);
-    let next = done.head;
-    next.move_by(&mut words[0..size], distance)
-}
 
-// After a set up, with sharing closed.
-pub fn set_up(code: u32) -> State {
-    let key = [5u8; 32];
-    let iv = [6u8; 32];
-    let mut words = [7u32; 2049];
-    let done = set_up_in(code, &key, &iv, &mut words);
-    let head = done.head;
-    State {
-        head: head,
-        off: 0,
-        account: ShareAccount::closed(),
-        size: 64 * key_bytes(code),
-        words: words,
+    // With another cipher code and area size, at another position, and with a word that is off by so much.
+    pub fn with_head(&self, code: u32, size: usize, position: u64, off: u32) -> io::Result<State> {
+        let word = self.head.word.wrapping_add(off);
+        let mut area = self.area.clone()?;
+        area.resize(size, 7)?;
+        Ok(State {
+            head: Head::at(code, position, word, self.head.mark),
+            off,
+            account: self.account,
+            area,
+        })
     }
-}
 
-// After a cipher call of n bytes and a move from there.
-pub fn moved(from: State, n: usize, distance: i64) -> State {
-    let head = from.head;
-    let account = from.account;
-    let size = from.size;
-    let mut words = from.words;
-    let done = cipher_and_move(head, &mut words, size, n, distance);
-    let next = done.head;
-    State {
-        head: next,
-        off: 0,
-        account: account,
-        size: size,
-        words: words,
+    // What a call leaves that is lent n bytes.
+    pub fn after<F: Fn(Head, ShareAccount, &mut [u32], &mut [u8]) -> Next<()>>(
+        &self,
+        n: usize,
+        call: F,
+    ) -> io::Result<Left>
+        requires { F.IsAlwaysCallable call }
+    {
+        let mut state = self.with_account(self.account)?;
+        let mut bytes = self.lent(n)?;
+        let next = call(self.head, self.account, &mut state.area, &mut bytes);
+        state.head = next.head;
+        Ok(Left {
+            answer: next.answer,
+            state,
+            bytes,
+        })
     }
-}
 
-// With another share account.
-pub fn with_account(from: State, account: ShareAccount) -> State {
-    let head = from.head;
-    let words = from.words;
-    State {
-        head: head,
-        off: from.off,
-        account: account,
-        size: from.size,
-        words: words,
+    // So many bytes that a call is lent: the first five are a volume of one entry.
+    pub fn lent(&self, n: usize) -> io::Result<Vec<u8>> {
+        let volume = [1, 0, 100, 5, 1];
+        let rest = iter::repeat(90);
+        let bytes = volume
+            .into_iter()
+            .chain(rest)
+            .take(n)
+            .collect(self.alloc())?;
+        Ok(bytes)
     }
-}
 
-// With another cipher code and area size, at another position, and with a word that is off by so much.
-pub fn with_head(from: State, code: u32, size: usize, position: u64, off: u32) -> State {
-    let head = from.head;
-    let account = from.account;
-    let words = from.words;
-    let word = std::num::wrapping_add_u32(head.word, off);
-    State {
-        head: Head::at(code, position, word, head.mark),
-        off: off,
-        account: account,
-        size: size,
-        words: words,
+    // What a refused call leaves that was lent n bytes: everything as it was.
+    pub fn kept(&self, n: usize, refusal: Refusal) -> io::Result<Left> {
+        Ok(Left {
+            answer: Err(refusal),
+            state: self.with_account(self.account)?,
+            bytes: self.lent(n)?,
+        })
+    }
+
+    // The first bytes, so many, of the checkpoint that the head writes.
+    pub fn checkpoint(&self, n: usize) -> io::Result<Vec<u8>> {
+        let mut string = vec![in self.alloc(); 0; 8194]?;
+        self.head.write(&self.area, &mut string);
+        string.truncate(n);
+        Ok(string)
+    }
+
+    fn alloc(&self) -> Global {
+        *self.area.allocator()
     }
 }

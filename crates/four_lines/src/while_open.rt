@@ -1,82 +1,201 @@
 // The six calls that are refused while sharing is open: each is to get its number. Where it is accepted, head, area and bytes are to be those after
 // the engine's own call; where it is refused, everything is to stay.
-use crate::engine_calls::Call;
-use crate::left::{Left, kept, left_at, left_by, lent, same_left};
-use crate::state::{State, not_called};
-use crate::{engine_calls, lines};
+use crate::lines::line;
+use crate::state::State;
+use cipher::Cipher;
 use engine::Head;
-use engine::answers::Done;
+use engine::answers::{Keys, Next};
+use refusal::Refusal;
 use sharing::ShareAccount;
-use std::io;
+use std::fmt::Display;
+use std::{fmt, io};
 
-// A call with the first of these words as area.
-fn call_in(
-    shared: bool,
-    head: Head,
-    account: ShareAccount,
-    words: &mut [u32],
-    size: usize,
-    call: Call,
-    bytes: &mut [u8],
-) -> Done {
-    let mut string = [0u8; 8194];
-    if words.len() < size {
-        return not_called(head);
+static KEY: [u8; 32] = [8; 32];
+
+// A key of a code, and an IV: as many bytes as its cipher has, or 32 where it has no cipher.
+fn key_of(code: u32) -> &'static [u8] {
+    match Cipher::try_from(code) {
+        Ok(cipher) => &KEY[..cipher.key_bytes()],
+        Err(_) => &KEY,
     }
-    engine_calls::done_by(
-        shared,
-        head,
-        account,
-        &mut words[0..size],
-        call,
-        bytes,
-        &mut string,
+}
+
+// The outcome of a load, which is to give the key and the IV of the set up, bytes 5 and 6.
+fn loaded(next: Next<Keys>) -> Next<()> {
+    let answer = next.answer.and_then(|keys| {
+        if keys.key[0] == 0x05050505 && keys.iv[0] == 0x06060606 {
+            Ok(())
+        } else {
+            Err(Refusal::NoKey)
+        }
+    });
+    Next {
+        head: next.head,
+        answer,
+    }
+}
+
+// What a call is to get, and the position and the mark that it is to leave.
+#[derive(Clone, Copy)]
+pub struct Outcome {
+    pub answer: Result<(), Refusal>,
+    pub position: u64,
+    pub mark: u64,
+}
+
+impl Outcome {
+    pub fn accepted(position: u64, mark: u64) -> Outcome {
+        Outcome {
+            answer: Ok(()),
+            position,
+            mark,
+        }
+    }
+
+    pub fn refused(refusal: Refusal, position: u64, mark: u64) -> Outcome {
+        Outcome {
+            answer: Err(refusal),
+            position,
+            mark,
+        }
+    }
+}
+
+impl Display for Outcome {
+    fn fmt<W: fmt::Write>(&self, f: &mut fmt::Formatter<W>) -> fmt::Result {
+        let Outcome {
+            answer,
+            position,
+            mark,
+        } = *self;
+        write!(
+            f,
+            "{}, at {position} mark {mark}",
+            refusal::number_of(answer)
+        )
+    }
+}
+
+// A call that is lent n bytes, by sharing and by the engine itself.
+fn calls<S, E>(
+    rt: &impl Print,
+    from: &State,
+    call: impl Display + Drop,
+    n: usize,
+    by_sharing: S,
+    by_engine: E,
+    expected: Outcome,
+) -> io::Result<()>
+where
+    S: Fn(Head, ShareAccount, &mut [u32], &mut [u8]) -> Next<()>,
+    E: Fn(Head, ShareAccount, &mut [u32], &mut [u8]) -> Next<()>,
+    requires { S.IsAlwaysCallable by_sharing × E.IsAlwaysCallable by_engine }
+{
+    let got = from.after(n, by_sharing)?;
+    let to = match expected.answer {
+        Ok(()) => from.after(n, by_engine)?,
+        Err(refusal) => from.kept(n, refusal)?,
+    };
+    let Head { position, mark, .. } = got.state.head;
+    let is_right = got == to
+        && got.answer == expected.answer
+        && position == expected.position
+        && mark == expected.mark;
+    line(rt, from, call, expected, is_right)
+}
+
+// Set up with a code.
+pub fn set_up(rt: &impl Print, from: &State, code: u32, expected: Outcome) -> io::Result<()> {
+    let key = key_of(code);
+    calls(
+        rt,
+        from,
+        format_args!("set up with code {code}"),
+        0,
+        |head, account, area, _| sharing::set_up(head, account, code, key, key, area),
+        |head, _, area, _| head.set_up(code, key, key, area),
+        expected,
     )
 }
 
-// What a call leaves, by sharing's call or by the engine's own.
-pub fn called(shared: bool, from: State, call: Call) -> Left {
-    let head = from.head;
-    let account = from.account;
-    let mut words = from.words;
-    let mut bytes = lent();
-    let done = call_in(
-        shared, head, account, &mut words, from.size, call, &mut bytes,
-    );
-    let next = done.head;
-    left_by(from, done.refusal, next, account, words, bytes)
+// Load of so many bytes of the checkpoint that the head writes.
+pub fn load(rt: &impl Print, from: &State, n: usize, expected: Outcome) -> io::Result<()> {
+    let string = from.checkpoint(n)?;
+    calls(
+        rt,
+        from,
+        format_args!("load of bytes {n}"),
+        0,
+        |head, account, area, _| loaded(sharing::load(head, account, area, &string)),
+        |head, _, area, _| loaded(head.load(area, &string)),
+        expected,
+    )
 }
 
-// The name of a call and its number.
-fn name(rt: &impl Print, call: Call) -> io::Result<()> {
-    match call {
-        Call::SetUp(code) => lines::number(rt, " set up with code ", code as u64),
-        Call::Load(n) => lines::number(rt, " load of bytes ", n as u64),
-        Call::Move(n) => lines::number(rt, " move by bytes ", n as u64),
-        Call::TestLoad(seed) => lines::number(rt, " test load from seed ", seed as u64),
-        Call::EncipherVolume(n) => lines::number(rt, " encipher volume of bytes ", n as u64),
-        Call::Cipher(n) => lines::number(rt, " cipher of bytes ", n as u64),
-    }
+// Move by so many bytes.
+pub fn move_by(rt: &impl Print, from: &State, n: i64, expected: Outcome) -> io::Result<()> {
+    calls(
+        rt,
+        from,
+        format_args!("move by bytes {n}"),
+        0,
+        |head, account, area, _| sharing::move_by(head, account, area, n),
+        |head, _, area, _| head.move_by(area, n),
+        expected,
+    )
 }
 
-// A call that is to get this number and to leave this position and mark.
-pub fn calls(
+// Test load of three calls from a seed, with the code of the head.
+pub fn run_test_load(
     rt: &impl Print,
-    from: State,
-    call: Call,
-    refusal: u64,
-    position: u64,
-    mark: u64,
+    from: &State,
+    seed: u32,
+    expected: Outcome,
 ) -> io::Result<()> {
-    let account = from.account;
-    let got = called(true, from, call);
-    let own = called(false, from, call);
-    let there = (got.refusal == refusal) & left_at(got, account, position, mark);
-    let stays = (refusal != 0) & same_left(got, kept(from, refusal));
-    let goes = (refusal == 0) & same_left(got, own);
-    lines::start(rt, from)?;
-    name(rt, call)?;
-    lines::refusal(rt, refusal)?;
-    lines::place(rt, position, mark)?;
-    lines::end(rt, there & (stays | goes))
+    let code = from.head.code;
+    let key = key_of(code);
+    calls(
+        rt,
+        from,
+        format_args!("test load from seed {seed}"),
+        0,
+        |head, account, area, _| sharing::run_test_load(
+            head, account, seed, 3, code, key, key, area,
+        ),
+        |head, _, area, _| test_load::test_load(head, seed, 3, code, key, key, area),
+        expected,
+    )
+}
+
+// Encipher volume of so many bytes.
+pub fn encipher_volume(
+    rt: &impl Print,
+    from: &State,
+    n: usize,
+    expected: Outcome,
+) -> io::Result<()> {
+    let call = format_args!("encipher volume of bytes {n}");
+    calls(
+        rt,
+        from,
+        call,
+        n,
+        sharing::encipher_volume,
+        |head, _, area, bytes| head.encipher_volume(area, bytes),
+        expected,
+    )
+}
+
+// Cipher of so many bytes.
+pub fn cipher(rt: &impl Print, from: &State, n: usize, expected: Outcome) -> io::Result<()> {
+    let call = format_args!("cipher of bytes {n}");
+    calls(
+        rt,
+        from,
+        call,
+        n,
+        sharing::cipher,
+        |head, _, area, bytes| head.cipher(area, bytes),
+        expected,
+    )
 }
