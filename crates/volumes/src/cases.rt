@@ -1,4 +1,4 @@
-// The tables of cases, in text, a case a line.
+// The tables of cases, in text, a case a line, with refusals by their numbers, so that a line of a table says what the printed line says.
 
 // Each number at both ends of its range, and beyond them; and on both sides of where its groups grow in number.
 pub const READ_RANGES: &str = "\
