@@ -1,5 +1,6 @@
 // The cases of document 02 (i), four lines on one stream, for both ciphers: a line each, `ok` or `wrong`. A line says from what head, area and share
 // account a call starts, what it is to get, and where it is accepted what it is to leave.
+// Where each case begins from a state of its own, the calls stand one after another and not in an array.
 #![tactic(auto)]
 
 use cipher::Cipher;
