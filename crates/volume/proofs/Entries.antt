@@ -1,13 +1,11 @@
--- Entries as one list of numbers, four each, and back; and one entry after another out of such a list. Assumes nothing.
+-- Entries as one list of numbers, four each, and back. Assumes nothing.
 use mathlib.Core.Path.{◌≡◌, refl, ap}
 use mathlib.Core.List.{List, [], ◌∷◌}
-use Prim.Native.Nat.{ℕ, zero, suc, ◌+◌, ◌*◌, ◌<◌, ◌≤◌}
+use Prim.Native.Nat.{ℕ, zero, suc, ◌*◌}
 use native.Mathlib.Omega.{arith}
-use lib.ListN.{length, drop, drop_of_length-le}
-use lib.Seq.{drop-cons}
+use lib.ListN.{length}
 use Rattle.volume.specs.declared.Entry.{Entry}
 use Rattle.volume.specs.Volume.{numbers_of, entries_of}
-use Rattle.volume.specs.Found.{entry_at}
 
 pub numbers_length : (entries : List Entry) → length (numbers_of entries) ≡ 4 * length entries
 unfolding numbers_of
@@ -32,29 +30,3 @@ numbers_entries (suc n) (a ∷ b ∷ c ∷ d ∷ list) h =
 
 pub entries_length_lem : (n : ℕ) (list : List ℕ) → length list ≡ 4 * n → length (entries_of list) ≡ n
 entries_length_lem n list h = omega (arith, numbers_length (entries_of list), ap length (numbers_entries n list h))
-
-module _ (list : List ℕ) where
-  -- entry k, and those after it
-  pub entries_more : (k : ℕ) → 4 * k + 3 < length list → entries_of (drop (4 * k) list) ≡ entry_at list k ∷ entries_of (drop (4 * (k + 1)) list)
-  unfolding entries_of
-  entries_more k h =
-      let p : suc (suc (suc (suc (4 * k)))) ≡ 4 * (k + 1) = omega arith in
-      let q : suc (4 * k) ≡ 4 * k + 1 = omega arith in
-      let r : suc (4 * k + 1) ≡ 4 * k + 2 = omega arith in
-      let s : suc (4 * k + 2) ≡ 4 * k + 3 = omega arith in
-      let t : suc (4 * k + 3) ≡ 4 * (k + 1) = omega arith in
-      rw (
-        drop-cons list (4 * k) 0 (omega arith),
-        q,
-        drop-cons list (4 * k + 1) 0 (omega arith),
-        r,
-        drop-cons list (4 * k + 2) 0 (omega arith),
-        s,
-        drop-cons list (4 * k + 3) 0 (omega arith),
-        t,
-      )
-
-  -- none after the last
-  pub entries_none : (k : ℕ) → length list ≤ 4 * k → entries_of (drop (4 * k) list) ≡ []
-  unfolding entries_of
-  entries_none k h = rw (drop_of_length-le list h)

@@ -36,7 +36,7 @@ module _ (list lent : List ℕ) where
     abbrev n : ℕ
     n = length list / 4
 
-    pub whole_entries : length list ≡ 4 * n
+    whole_entries : length list ≡ 4 * n
     whole_entries = omega arith
 
     count_is : length (entries_of list) ≡ n

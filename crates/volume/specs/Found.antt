@@ -1,5 +1,5 @@
 -- What the code passes on while it reads or writes a volume. Only contracts below the calls cite it.
-use Rattle.std.specs.Prelude.{◌≡◌, List, ℕ, ◌+◌, ◌*◌, ◌≤◌, length, get_or, drop}
+use Rattle.std.specs.Prelude.{◌≡◌, List, ℕ, ◌≤◌, length, drop}
 use Rattle.laws.specs.Lent.{put_first}
 use Rattle.laws.specs.Result.{Result, accepted, ◌>>=◌, ◌>>◌, refuse◌unless◌}
 use Rattle.varint.specs.declared.Found.{Found}
@@ -45,16 +45,6 @@ pub record Begins (string : List ℕ) (r : Found ℕ) : Type 0 where
 -- where n entries begin the string, the list has their numbers at its start, and later elements as before
 abbrev pub Stored : (n : ℕ) (string before after : List ℕ) → Type 0
 Stored n string before after = (found : EntriesRead) → read_entries n string ≡ accepted found → after ≡ put_first (numbers_of found.entries) before
-
--- entry k of a list of numbers
-abbrev pub entry_at : List ℕ → ℕ → Entry
-entry_at list k =
-    record {
-      minutes = get_or list (4 * k) 0;
-      litres = get_or list (4 * k + 1) 0;
-      ratio = get_or list (4 * k + 2) 0;
-      product = get_or list (4 * k + 3) 0;
-    }
 
 -- how many bytes entries take. 15: one of their numbers is out of its range.
 unfoldable pub entries_length : List Entry → Result ℕ

@@ -150,11 +150,11 @@ pub fn write_volume(list: &[u32], lent: &mut [u8]) -> Result<usize, Refusal>
     if n > MOST_ENTRIES as usize {
         return Err(Refusal::VolumeRange);
     }
-    let length = varint::count_groups(n as u64) + measure_entries(list, n)?;
+    let length = varint::count_groups(n as u64) + measure_entries(list)?;
     if lent.len() < length {
         return Err(Refusal::LittleRoom);
     }
     let first = varint::write_number(n as u64, lent, 0);
-    put_entries(list, n, lent, first);
+    put_entries(list, lent, first);
     Ok(length)
 }

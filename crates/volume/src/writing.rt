@@ -8,16 +8,16 @@ ghost use Rattle.volume.specs.Found as Found;
 use crate::{Entry, LEAST_PRODUCT, MOST_LITRES, MOST_MINUTES, MOST_PRODUCT, MOST_RATIO};
 use refusal::Refusal;
 
-// Entry k of a list of numbers.
-fn entry_at(list: &[u32], k: usize) -> Entry
-    requires { (4 * k + 3 < length list.now) × (k < 2000) }
-    ensures { result ≡ Found.entry_at list.now k }
+// The entry of four numbers.
+fn entry_of(numbers: &[u32]) -> Entry
+    requires { length numbers.now ≡ 4 }
+    ensures { numbers.now ≡ Volume.four_numbers result }
 {
     Entry {
-        minutes: list[4 * k],
-        litres: list[4 * k + 1],
-        ratio: list[4 * k + 2],
-        product: list[4 * k + 3],
+        minutes: numbers[0],
+        litres: numbers[1],
+        ratio: numbers[2],
+        product: numbers[3],
     }
 }
 
@@ -52,15 +52,15 @@ fn entry_bytes(entry: Entry) -> usize
     minutes + litres + ratio + product
 }
 
-// How many bytes the n entries of a list take, each number of which is to be in its range.
-pub fn measure_entries(list: &[u32], n: usize) -> Result<usize, Refusal>
-    requires { (4 * n ≡ length list.now) × (n ≤ 2000) }
+// How many bytes the entries of a list take, each number of which is to be in its range.
+pub fn measure_entries(list: &[u32]) -> Result<usize, Refusal>
+    requires { length list.now ≤ 8000 }
     ensures measured { told result ≡ Found.entries_length (Volume.entries_of list.now) }
     ensures at_most { IfOk result (λ length. length ≤ 80000) }
 {
     let mut length = 0;
-    for k in 0..n {
-        let entry = entry_at(list, k);
+    for numbers in list.chunks_exact(4) {
+        let entry = entry_of(numbers);
         if !in_range(entry) {
             return Err(Refusal::VolumeRange);
         }
@@ -80,15 +80,13 @@ fn put_entry(entry: Entry, lent: &mut [u8], at: usize) -> usize
     varint::put_number(entry.product.into(), lent, after_ratio)
 }
 
-// Writes the n entries of a list from place `first` on.
-pub fn put_entries(list: &[u32], n: usize, lent: &mut [u8], first: usize)
-    requires { (4 * n ≡ length list.now) × (n ≤ 2000)
-        × (first + length (Volume.entries_string (Volume.entries_of list.now)) ≤ length lent.old) }
+// Writes the entries of a list from place `first` on.
+pub fn put_entries(list: &[u32], lent: &mut [u8], first: usize)
+    requires { first + length (Volume.entries_string (Volume.entries_of list.now)) ≤ length lent.old }
     ensures { lent.new ≡ sets lent.old first (Volume.entries_string (Volume.entries_of list.now)) }
 {
     let mut at = first;
-    for k in 0..n {
-        let entry = entry_at(list, k);
-        at = put_entry(entry, lent, at);
+    for numbers in list.chunks_exact(4) {
+        at = put_entry(entry_of(numbers), lent, at);
     }
 }

@@ -3,7 +3,7 @@ use Rattle.std.proofs.Common.{◌≡◌, ◌∙◌, ◌/◌, length, sym, arith}
 use Rattle.std.proofs.lemmas.Result.{err_from_is_err_and}
 use Rattle.varint.specs.Number.{number}
 use Rattle.volume.specs.Calls.{write_volume_call}
-use Rattle.volume.proofs.Written.{writes_part, whole_entries, writes_many, writes_out_of_range, writes_short, writes_room, writes}
+use Rattle.volume.proofs.Written.{writes_part, writes_many, writes_out_of_range, writes_short, writes_room, writes}
 use Rattle.volume.proofs.write_volume.Goals as goal
 
 pub returns-then-numbers-ne0 : goal.returns-then-numbers-ne0
@@ -41,7 +41,7 @@ put_entries-requires c =
     let written = c.write_number-first in
     let kept = written.auto.out in
     let room = writes_room a.list.now a.lent.now whole (omega arith) _ (sym c.in_ok-length.ensures.measured) (omega arith) in
-    (omega (arith, whole_entries a.list.now a.lent.now whole), omega arith, omega (arith, written.ensures.0))
+    omega (arith, written.ensures.0)
 
 pub returns : goal.returns
 unfolding write_volume_call

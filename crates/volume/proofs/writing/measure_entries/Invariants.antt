@@ -1,7 +1,12 @@
 -- The loop of `volume::writing::measure_entries` keeps `Measured`.
-use Rattle.std.proofs.Common.{◌*◌, ◌≤◌}
+use Rattle.std.proofs.Common.{◌≡◌, ◌+◌, ◌*◌, ◌≤◌, length}
+use Rattle.std.specs.Slice.Iter.{chunks_exact_size, chunks_exact_rest}
 use Rattle.volume.proofs.Measuring.{Measured}
 use Rattle.volume.proofs.writing.measure_entries.Given as goal
 
-abbrev pub invariant-loop-k : goal.invariant-loop-k
-invariant-loop-k l = (l.length ≤ 40 * l.k) × Measured l.list l.k l.length
+abbrev pub invariant-loop-numbers : goal.invariant-loop-numbers
+invariant-loop-numbers l =
+    let rest = chunks_exact_rest l.numbers-iterator in
+    (chunks_exact_size l.numbers-iterator ≡ 4)
+    × (l.length + 10 * length rest ≤ 10 * length l.list)
+    × Measured l.list rest l.length
