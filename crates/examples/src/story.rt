@@ -37,7 +37,7 @@ fn moves(code: u32, from: u64, distance: i64, to: u64, area: &mut [u32]) -> bool
     accepted(next, head_on(code, to, MARK, area))
 }
 
-// Ciphers bytes in parts of 1 to 13 bytes, and gives the next head.
+// Ciphers bytes in parts of 1 to 13 bytes, and gives the next head. No iterator of chunks has parts of different lengths.
 fn cipher_in_parts(mut head: Head, area: &mut [u32], bytes: &mut [u8]) -> Head {
     let total = bytes.len();
     let mut rest = &mut *bytes;

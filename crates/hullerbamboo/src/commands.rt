@@ -226,7 +226,7 @@ impl Secret {
     }
 }
 
-// Makes both files before a byte is written; where the second cannot be made, the first is removed again.
+// Makes both files before a byte is written; where the second cannot be made, the first is removed again. Where neither can be written, both are said.
 fn save_both<'a>(
     rt: &impl Runtime,
     key_path: &'a str,
