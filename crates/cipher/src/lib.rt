@@ -7,11 +7,21 @@ ghost use Rattle.refusal.specs.Told.{told};
 ghost use Rattle.cipher.specs.Numbers as Numbers;
 
 use refusal::Refusal;
+use std::fmt;
 
 #[derive(Clone, Copy, Debug, PartialEq, Eq)]
 pub enum Cipher {
     Hc128,
     Hc256,
+}
+
+impl fmt::Display for Cipher {
+    fn fmt<W: fmt::Write>(&self, f: &mut fmt::Formatter<W>) -> fmt::Result {
+        f.write_str(match self {
+            Cipher::Hc128 => "HC-128",
+            Cipher::Hc256 => "HC-256",
+        })
+    }
 }
 
 // The numbers of a cipher: its code, the words of a table (T), the bytes of a key and of an IV, and the words of the expansion.

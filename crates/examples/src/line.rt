@@ -1,4 +1,5 @@
 // The line of a case: what was called, and `ok` or `wrong`.
+use cipher::Cipher;
 use refusal::Refusal;
 use std::{fmt, io};
 
@@ -34,14 +35,14 @@ pub fn gets(
     )
 }
 
-// The name of a cipher.
-fn name(code: u32) -> &'static str {
-    if code == 1 { "HC-128" } else { "HC-256" }
+// The cipher that a line names by a head's code.
+fn cipher_of(code: u32) -> Cipher {
+    Cipher::try_from(code).unwrap_or(Cipher::Hc256)
 }
 
 // The line of a step of a cipher's story, with its position.
 pub fn report(rt: &impl Print, code: u32, position: u64, case: &str, ok: bool) -> io::Result<()> {
-    println!(rt; "{} at {position} {case} {}", name(code), verdict(ok))
+    println!(rt; "{} at {position} {case} {}", cipher_of(code), verdict(ok))
 }
 
 // The line of a step of a cipher's story, with its position and the scene that the step belongs to.
@@ -55,7 +56,7 @@ pub fn report_in(
 ) -> io::Result<()> {
     println!(rt;
         "{} at {position} {scene}, {case} {}",
-        name(code),
+        cipher_of(code),
         verdict(ok)
     )
 }

@@ -23,12 +23,6 @@ part_length n a l h = length-take-le n (drop a l) (rw length-drop (omega arith))
 pub part_at : (n a : ℕ) (l : List ℕ) (k : ℕ) → k < n → get_or (take n (drop a l)) k 0 ≡ get_or l (a + k) 0
 part_at n a l k h = get_or-take n (drop a l) k 0 h ∙ get_or-drop a l k 0
 
-pub part_equal : (n a b : ℕ) (l m : List ℕ) → a + n ≤ length l → b + n ≤ length m
-    → ((k : ℕ) → k < n → get_or l (a + k) 0 ≡ get_or m (b + k) 0) → take n (drop a l) ≡ take n (drop b m)
-part_equal n a b l m p q h =
-    ext_get_or 0 (take n (drop a l)) (take n (drop b m)) (part_length n a l p ∙ sym (part_length n b m q))
-    (λ k r. let t : k < n = rw part_length at r in part_at n a l k t ∙ h k t ∙ sym (part_at n b m k t))
-
 -- a bound on every element survives a store of an element within it
 pub set_below : {m : ℕ} (s : List ℕ) (p : ℕ) {v : ℕ} (k : ℕ) → v < m → get_or s k 0 < m → get_or (set s p v) k 0 < m
 set_below [] p k l h = h

@@ -44,9 +44,6 @@ pub record Backward (g : List ℕ → ℕ → List ℕ) (s₀ s : List ℕ) (i k
   pub within : k ≤ n
 
 module _ (g : List ℕ → ℕ → List ℕ) (s₀ : List ℕ) (i n : ℕ) where
-  pub backward_starts : Backward g s₀ s₀ i n n
-  backward_starts = record { left = refl; sized = refl; within = omega arith }
-
   pub backward_turns : {s t : List ℕ} {k : ℕ} (m : ℕ) → Backward g s₀ s i k n → 0 < k → m ≡ i + (k - 1) → t ≡ g s m → length t ≡ length s
       → Backward g s₀ t i (k - 1) n
   backward_turns {s} {t} {k} m v l e q z = record {

@@ -74,9 +74,3 @@ module _ {A : Type 0} (n : ℕ) (a : A) (X : Result A) (e : result_of n a ≡ X)
 
   pub is_accepted : n ≡ 0 → X ≡ accepted a
   is_accepted h = sym e ∙ rw (eq-eqb n 0 h)
-
-  pub accepted_is : {b : A} → X ≡ accepted b → (n ≡ 0) × (a ≡ b)
-  accepted_is {b} q = ⊎_elim
-      (λ (h : n ≡ 0). (h, accepted_one (is_accepted h) q))
-      (λ (h : n ≡ 0 → ⊥). no_refusal (sym q ∙ is_refused h))
-      (zero_or_not n)

@@ -50,7 +50,3 @@ same_equal [] (b ∷ m) e = absurd (false≢true e)
 same_equal (a ∷ l) [] e = absurd (false≢true e)
 same_equal (a ∷ l) (b ∷ m) e =
     ap₂ ◌∷◌ (eqb-true a b (and_left (eqb a b) (same l m) e)) (same_equal l m (and_right (eqb a b) (same l m) e))
-
--- lists that differ somewhere are not the same
-pub differ_same : (l m : List ℕ) (k : ℕ) → (get_or l k 0 ≡ get_or m k 0 → ⊥) → same l m ≡ false
-differ_same l m k h = not_true_is_false (same l m) (λ e. h (ap (λ (z : List ℕ). get_or z k 0) (same_equal l m e)))

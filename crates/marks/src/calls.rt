@@ -28,14 +28,6 @@ impl fmt::Display for Place {
     }
 }
 
-// The name of a cipher.
-fn name(cipher: Cipher) -> &'static str {
-    match cipher {
-        Cipher::Hc128 => "HC-128",
-        Cipher::Hc256 => "HC-256",
-    }
-}
-
 // A call, with how many bytes it has, which way it goes, or what it reads.
 #[derive(Clone, Copy)]
 pub enum Call<'a> {
@@ -78,11 +70,10 @@ pub fn line(
     place: Place,
     ok: bool,
 ) -> io::Result<()> {
-    let name = name(cipher);
     let before = Place::of(before);
     let number = refusal::number_of(answer);
     let word = if ok { "ok" } else { "wrong" };
-    println!(rt; "{name} {before} {call} gets {number} {place} {word}")
+    println!(rt; "{cipher} {before} {call} gets {number} {place} {word}")
 }
 
 // A cipher, a head and its area.

@@ -5,14 +5,6 @@ use engine::Head;
 use engine::answers::Next;
 use std::io;
 
-// The name of a cipher.
-fn name(cipher: Cipher) -> &'static str {
-    match cipher {
-        Cipher::Hc128 => "HC-128",
-        Cipher::Hc256 => "HC-256",
-    }
-}
-
 // The bytes that a write by a head puts into a buffer of zeros.
 fn written(rt: &impl AllocGlobal, head: Head, area: &[u32]) -> io::Result<Vec<u8>> {
     let mut lent = vec![in rt.alloc(); 0u8; 8197]?;
@@ -47,11 +39,10 @@ pub fn accepts(
     let moved = move_to::move_to(start.head, &mut area, position);
     let second = written(rt, moved.head, &area)?;
 
-    let name = name(cipher);
     let word = if ended && first == second {
         "ok"
     } else {
         "wrong"
     };
-    println!(rt; "{name} seed {seed} count {count} ends at {position} mark {mark} {word}")
+    println!(rt; "{cipher} seed {seed} count {count} ends at {position} mark {mark} {word}")
 }

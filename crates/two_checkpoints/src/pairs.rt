@@ -1,12 +1,12 @@
 // Pairs of checkpoints of one cipher: of one run at two positions, and of runs whose key or IV is another.
 use crate::check;
-use crate::strings::{Run, change, name};
+use crate::strings::{Run, change};
 use std::io;
 
 // One run: the same position; positions inside one word, which have the same tables; positions on both sides of a word's end, of the places where the
 // position gets a group more, and of the ends of a table's turn; the start and the end of the stream. Each pair in both orders.
 pub fn one_run(rt: &(impl Print + AllocGlobal), run: Run) -> io::Result<()> {
-    let cipher = name(run.cipher);
+    let cipher = run.cipher;
     for (p, q) in [
         (0, 0),
         (0, 1),
@@ -52,7 +52,6 @@ fn changed(bytes: [u8; 32], at: usize) -> [u8; 32] {
 // Runs whose key and IV differ in one bit of their first or last byte, or are exchanged, at one position and at two. Each pair in both orders.
 pub fn other_runs(rt: &(impl Print + AllocGlobal), run: Run) -> io::Result<()> {
     let Run { cipher, key, iv } = run;
-    let name = name(cipher);
     let last = cipher.key_bytes() - 1;
     for (p, q) in [(0, 0), (5, 5), (777, 20)] {
         for (case, key, iv) in [
@@ -67,14 +66,14 @@ pub fn other_runs(rt: &(impl Print + AllocGlobal), run: Run) -> io::Result<()> {
             let b = other.checkpoint(rt.alloc(), q)?;
             check(
                 rt,
-                format_args!("{name} at {p} and {q}, {case}"),
+                format_args!("{cipher} at {p} and {q}, {case}"),
                 &a,
                 &b,
                 Ok(false),
             )?;
             check(
                 rt,
-                format_args!("{name} at {q} and {p}, {case}"),
+                format_args!("{cipher} at {q} and {p}, {case}"),
                 &b,
                 &a,
                 Ok(false),

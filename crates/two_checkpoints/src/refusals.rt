@@ -1,6 +1,7 @@
 // The refusals of load, 4 excepted, of the first string and of the second, and 23.
 use crate::check;
-use crate::strings::{Run, beginning, change, length, name};
+use crate::strings::{Run, beginning, change, length};
+use cipher::Cipher;
 use refusal::Refusal;
 use refusal::Refusal::{
     BadCode, BadNumber, BadPosition, EndsEarly, NoKey, StringLength, TwoCiphers,
@@ -10,7 +11,7 @@ use std::io;
 
 // Checkpoints of different ciphers, this one's first.
 pub fn two_ciphers(rt: &(impl Print + AllocGlobal), run: Run) -> io::Result<()> {
-    let cipher = name(run.cipher);
+    let cipher = run.cipher;
     for (p, q) in [(0, 0), (5, 777)] {
         let own = run.checkpoint(rt.alloc(), p)?;
         let spare = run.by_other_cipher().checkpoint(rt.alloc(), q)?;
@@ -23,7 +24,7 @@ pub fn two_ciphers(rt: &(impl Print + AllocGlobal), run: Run) -> io::Result<()> 
 // Checkpoints of both ciphers, this one's and the other's, beside which a string is refused.
 #[derive(Clone, Copy)]
 struct Beside<'a> {
-    cipher: &'static str,
+    cipher: Cipher,
     own: &'a [u8],
     spare: &'a [u8],
 }
@@ -89,7 +90,7 @@ pub fn one_refused(rt: &(impl Print + AllocGlobal), run: Run) -> io::Result<()> 
     let own = run.checkpoint(rt.alloc(), 5)?;
     let spare = run.by_other_cipher().checkpoint(rt.alloc(), 5)?;
     let beside = Beside {
-        cipher: name(run.cipher),
+        cipher: run.cipher,
         own: &own,
         spare: &spare,
     };
@@ -209,7 +210,7 @@ fn refused_with(alloc: Global, run: Run, refusal: Refusal) -> io::Result<Vec<u8>
 // Both strings are refused, and the answer is the first one's refusal: every two different refusals of load, in both orders; and a second string that
 // is of the other cipher.
 pub fn two_refused(rt: &(impl Print + AllocGlobal), run: Run) -> io::Result<()> {
-    let cipher = name(run.cipher);
+    let cipher = run.cipher;
     let refusals = [
         EndsEarly,
         BadCode,

@@ -41,14 +41,6 @@ impl Run {
     }
 }
 
-// The name of a cipher.
-pub fn name(cipher: Cipher) -> &'static str {
-    match cipher {
-        Cipher::Hc128 => "HC-128",
-        Cipher::Hc256 => "HC-256",
-    }
-}
-
 // The length of a cipher's checkpoint whose position has so many groups, 4 at most.
 pub fn length(cipher: Cipher, groups: usize) -> usize {
     1 + groups.min(4) + 4 * cipher.area_words()
