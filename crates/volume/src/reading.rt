@@ -128,6 +128,7 @@ fn store_entry(entry: Entry, list: &mut [u32], at: usize)
 }
 
 // Puts the n entries from place `first` on at the start of the lent list; later elements stay.
+// The elements are counted: over `list.chunks_exact_mut(4).take(n)` no fact at the loop's end says what the list holds, and the proof did not close.
 pub fn store_entries(string: &[u8], first: usize, n: usize, list: &mut [u32])
     requires { (first ≤ length string.now) × (4 * n ≤ length list.old) × (n ≤ 2000) }
     ensures { Stored n (drop first string.now) list.old list.new }
