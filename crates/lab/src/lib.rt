@@ -26,7 +26,7 @@ pub enum Command {
     Help,
 }
 
-// The command that a word names.
+// The command that a word names. The words are compared one after another: a `match` on them goes byte by byte, and the proof of that did not close.
 #[tactic(auto, using(crate::proofs::Words::same_is), unfolding(crate::specs::Words::command_of))]
 pub fn command_of(word: &[u8]) -> Option<Command>
     ensures { result ≡ Words.command_of word.now }
@@ -106,7 +106,8 @@ pub fn position_in(string: &[u8]) -> Option<u64>
     }
 }
 
-// The bytes from one place of a file to another, 0 where the second is not after the first or a place is below 0.
+// The bytes from one place of a file to another, 0 where the second is not after the first or a place is below 0. Places are signed, as the definition
+// has them.
 pub fn span(here: i64, end: i64) -> u64
     ensures { result ≡ Tasks.span here end }
 {

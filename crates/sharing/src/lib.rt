@@ -87,7 +87,8 @@ fn rest_of(left: u64, share0: u64, share1: u64, share2: u64, share3: u64) -> Opt
         .checked_sub(share3)
 }
 
-// Opens sharing at the head's position with a share for each line; what they leave of the stream is common.
+// Opens sharing at the head's position with a share for each line; what they leave of the stream is common. The shares are four numbers, as C hands
+// them over.
 pub fn open_sharing(
     head: Head,
     mut account: ShareAccount,
