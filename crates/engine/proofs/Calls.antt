@@ -7,8 +7,7 @@ use native.Mathlib.Nat.{le-max_right, max-eq_left}
 use native.Mathlib.Omega.{arith}
 use borrow.Author.Tests.{eq-eqb, ne_eqb, le-leb, lt-leb}
 use lib.IntN.{ℤ}
-use Rattle.std.specs.Prelude.{Some, None}
-use Rattle.std.specs.Bool.{then_some}
+use Rattle.std.specs.Prelude.{cond, Ok, Err}
 use lib.ListN.{length, take, drop, replicate}
 use lib.Seq.{length-take-le}
 use Rattle.laws.proofs.Lists.{take_below, drop_below, part_length}
@@ -155,18 +154,19 @@ module _ (code position : ℕ) where
 -- the key and the IV of the words that the tables lead back to
 module _ (c : Cipher) (s : List ℕ) (position : ℕ) where
   undone_if : (t : Bool) (o : List ℕ) → (t ≡ false → undo_at c s position ≡ SetUp.none)
-      → (t ≡ true → undo_at c s position ≡ SetUp.found (key_of c o) (iv_of c o)) → (then_some t o ≡ None → undo_at c s position ≡ SetUp.none)
-      × ((w : List ℕ) → then_some t o ≡ Some w → undo_at c s position ≡ SetUp.found (key_of c w) (iv_of c w))
-  undone_if true o f g = ((λ e. absurd (cc)), λ w e. let q : o ≡ w = cc in rw (← q) (g refl))
-  undone_if false o f g = ((λ e. f refl), λ w e. absurd (cc))
+      → (t ≡ true → undo_at c s position ≡ SetUp.found (key_of c o) (iv_of c o))
+      → ((w : List ℕ) → cond t (Ok o) (Err o) ≡ Err w → undo_at c s position ≡ SetUp.none)
+      × ((w : List ℕ) → cond t (Ok o) (Err o) ≡ Ok w → undo_at c s position ≡ SetUp.found (key_of c w) (iv_of c w))
+  undone_if true o f g = (λ w e. absurd (cc), λ w e. let q : o ≡ w = cc in rw (← q) (g refl))
+  undone_if false o f g = (λ w e. f refl, λ w e. absurd (cc))
 
   abbrev led : List ℕ
   led = filled_at c s position
 
-  pub no_pair : found_at c s position ≡ None → undo_at c s position ≡ SetUp.none
+  pub no_pair : (w : List ℕ) → found_at c s position ≡ Err w → undo_at c s position ≡ SetUp.none
   no_pair = (undone_if (is_filled c led) (origin c led) (none_at c s position) (Undo.found_at c s position)).0
 
-  pub pair_of : (w : List ℕ) → found_at c s position ≡ Some w → undo_at c s position ≡ SetUp.found (key_of c w) (iv_of c w)
+  pub pair_of : (w : List ℕ) → found_at c s position ≡ Ok w → undo_at c s position ≡ SetUp.found (key_of c w) (iv_of c w)
   pair_of = (undone_if (is_filled c led) (origin c led) (none_at c s position) (Undo.found_at c s position)).1
 
 module _ (h : Head) (area key iv : List ℕ) where
@@ -187,13 +187,13 @@ module _ (h : Head) (area key iv : List ℕ) where
     recover_iv k v = rw (e, eq-eqb (length key) (key_length c) k, ne_eqb (length iv) (iv_length c) v)
 
     module _ (k : length key ≡ key_length c) (v : length iv ≡ iv_length c) where
-      pub recover_none : found_at c area h.position ≡ None
+      pub recover_none : (w : List ℕ) → found_at c area h.position ≡ Err w
           → record { refusal = 12; value = record { engine = engine_of h area; key = key; iv = iv } } ≡ recover_call h area key iv
       unfolding recover_call recover recover_check
-      recover_none f =
-          rw (e, eq-eqb (length key) (key_length c) k, eq-eqb (length iv) (iv_length c) v, no_pair c area h.position f)
+      recover_none w f =
+          rw (e, eq-eqb (length key) (key_length c) k, eq-eqb (length iv) (iv_length c) v, no_pair c area h.position w f)
 
-      pub recover_done : (w key' iv' : List ℕ) → found_at c area h.position ≡ Some w → key' ≡ key_of c w → iv' ≡ iv_of c w
+      pub recover_done : (w key' iv' : List ℕ) → found_at c area h.position ≡ Ok w → key' ≡ key_of c w → iv' ≡ iv_of c w
           → record { refusal = 0; value = record { engine = engine_of h area; key = key'; iv = iv' } } ≡ recover_call h area key iv
       unfolding recover_call recover recover_check
       recover_done w key' iv' f p q =
@@ -231,15 +231,15 @@ module _ (h : Head) (string area : List ℕ) where
   load_refused n e = rw e
 
   module _ (c : Cipher) (position : ℕ) (rest : List ℕ) (e : load_check string (length area) ≡ load_found c position rest) where
-    pub load_none : found_at c (words rest) position ≡ None
+    pub load_none : (w : List ℕ) → found_at c (words rest) position ≡ Err w
         → record {
           refusal = 12;
           value = record { engine = engine_of h area; key = replicate 8 0; iv = replicate 8 0 };
         }
         ≡ load_call h string area
-    load_none f = load_refused 12 (e ∙ rw (no_pair c (words rest) position f))
+    load_none w f = load_refused 12 (e ∙ rw (no_pair c (words rest) position w f))
 
-    pub load_done : (new : Head) (s key iv w : List ℕ) (word : ℕ) → found_at c (words rest) position ≡ Some w
+    pub load_done : (new : Head) (s key iv w : List ℕ) (word : ℕ) → found_at c (words rest) position ≡ Ok w
         → new ≡ head_at (code_of c) position word position → s ≡ words rest → word ≡ word_at c s position
         → key ≡ eight_words (key_of c w) → iv ≡ eight_words (iv_of c w)
         → record { refusal = 0; value = record { engine = engine_of new s; key = key; iv = iv } } ≡ load_call h string area

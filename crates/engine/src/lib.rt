@@ -229,7 +229,9 @@ impl Head {
             next,
         } = conditions::load_check(string, area.len())?;
         let found = recovery::of_string(cipher, position as usize, string, next);
-        let words = found.ok_or(Refusal::NoKey)?;
+        let Ok(words) = found else {
+            return Err(Refusal::NoKey);
+        };
         checkpoint::read_words(string, next, area);
         let word = steps::word_at(cipher, area, position as usize);
         *self = Head::at(cipher.code(), position, word, position);
@@ -253,7 +255,9 @@ impl Head {
             return Err(Refusal::IvLength);
         }
         let found = recovery::of_area(cipher, self.position as usize, area);
-        let words = found.ok_or(Refusal::NoKey)?;
+        let Ok(words) = found else {
+            return Err(Refusal::NoKey);
+        };
         keys::store_key_and_iv(cipher, words, key, iv);
         Ok(())
     }

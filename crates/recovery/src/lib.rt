@@ -8,8 +8,8 @@ ghost use Rattle.recovery.specs.Recovery.{found_at};
 
 use cipher::Cipher;
 
-// The sixteen words that the tables at a position lead back to; the area is used up.
-fn undo_at(cipher: Cipher, position: usize, area: &mut [u32]) -> Option<[u32; 16]>
+// The sixteen words that the tables at a position lead back to: `Ok` where they are those of a key and an IV, else `Err`; the area is used up.
+fn undo_at(cipher: Cipher, position: usize, area: &mut [u32]) -> Result<[u32; 16], [u32; 16]>
     requires { (length area.old ≡ area_length cipher) × (position < 2 ^ 63) }
     ensures { result ≡ found_at cipher area.old position }
 {
@@ -19,7 +19,7 @@ fn undo_at(cipher: Cipher, position: usize, area: &mut [u32]) -> Option<[u32; 16
 }
 
 // The sixteen words that the tables of an area at a position lead back to; the area stays, and the copy that is used up is on the stack.
-pub fn of_area(cipher: Cipher, position: usize, area: &[u32]) -> Option<[u32; 16]>
+pub fn of_area(cipher: Cipher, position: usize, area: &[u32]) -> Result<[u32; 16], [u32; 16]>
     requires { (length area.now ≡ area_length cipher) × (position < 2 ^ 63) }
     ensures { result ≡ found_at cipher area.now position }
 {
@@ -30,7 +30,12 @@ pub fn of_area(cipher: Cipher, position: usize, area: &[u32]) -> Option<[u32; 16
 }
 
 // The sixteen words that the tables in a string, from place `from` on, lead back to at a position; the area that is used up is on the stack.
-pub fn of_string(cipher: Cipher, position: usize, string: &[u8], from: usize) -> Option<[u32; 16]>
+pub fn of_string(
+    cipher: Cipher,
+    position: usize,
+    string: &[u8],
+    from: usize,
+) -> Result<[u32; 16], [u32; 16]>
     requires { (from + 4 * area_length cipher ≡ length string.now) × (position < 2 ^ 63) }
     ensures { result ≡ found_at cipher (words (drop from string.now)) position }
 {

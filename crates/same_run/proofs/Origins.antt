@@ -6,7 +6,7 @@ use Prim.Native.Nat.{ℕ}
 use lib.Dec.{eqb}
 use lib.ListN.{length}
 use lib.Pointwise.{pointwise, bytes_decides}
-use Rattle.std.specs.Prelude.{Some, None, Ok}
+use Rattle.std.specs.Prelude.{Ok, Err}
 use Rattle.laws.specs.Same.{same}
 use Rattle.laws.specs.Result.{refused}
 use Rattle.laws.proofs.Same.{and_left, and_right, true_alike, equal_same, same_equal}
@@ -29,10 +29,10 @@ filled_doubled c s f = and_right (same s (filled c (origin c s))) (doubled c (or
 
 -- what a string holds whose conditions up to 11 hold, by the sixteen words that its tables lead back to
 module _ (string : List ℕ) (c : Cipher) (position : ℕ) (rest : List ℕ) (x : load_found c position rest ≡ string_check string) where
-  pub origin_none : None ≡ found_at c (words rest) position → string_check string ≡ refused 12
-  origin_none e = sym x ∙ rw (none_at c (words rest) position (none_filled c _ (sym e)))
+  pub origin_none : (w : List ℕ) → Err w ≡ found_at c (words rest) position → string_check string ≡ refused 12
+  origin_none w e = sym x ∙ rw (none_at c (words rest) position (none_filled c _ w (sym e)))
 
-  pub origin_found : (w : List ℕ) → Some w ≡ found_at c (words rest) position → OriginIs string (Ok (record { cipher = c; words = w }))
+  pub origin_found : (w : List ℕ) → Ok w ≡ found_at c (words rest) position → OriginIs string (Ok (record { cipher = c; words = w }))
   origin_found w e =
       let (f, w-is) = some_filled c _ w (sym e) in
       let o = origin c (filled_at c (words rest) position) in (

@@ -46,8 +46,10 @@ fn origin_of(string: &[u8]) -> Result<Origin, Refusal>
     let cipher = beginning.cipher;
     let position = beginning.position as usize;
     let found = recovery::of_string(cipher, position, string, beginning.next);
-    let words = found.ok_or(Refusal::NoKey)?;
-    Ok(Origin { cipher, words })
+    match found {
+        Ok(words) => Ok(Origin { cipher, words }),
+        Err(_) => Err(Refusal::NoKey),
+    }
 }
 
 // Whether two checkpoints are of one run.

@@ -1,9 +1,7 @@
 -- `is_filled` answers true of the areas that a key and an IV fill and of no others, and each has one key and one IV, which `origin` leads back to.
 -- Assumes nothing.
 use mathlib.Core.Path.{◌≡◌, refl, sym, ap, ◌∙◌}
-use Rattle.std.specs.Prelude.{Bool, Option, Some, None}
-use Rattle.std.specs.Bool.{then_some}
-use Rattle.std.specs.Option.{MatchOption}
+use Rattle.std.specs.Prelude.{Bool, cond, Result, Ok, Err, MatchResult}
 use mathlib.Core.Bool.{true, false, true≢false}
 use mathlib.Core.List.{List}
 use Prim.Native.Nat.{ℕ}
@@ -54,12 +52,13 @@ module _ (c : Cipher) (s : List ℕ) (long : length s ≡ area_length c) (ok : A
 
 -- what `if_filled` tells of an area
 module _ (c : Cipher) (s : List ℕ) where
-  if_filled_is : (b : Bool) (x : List ℕ) (o : Option (List ℕ)) → then_some b x ≡ o → MatchOption o (b ≡ false) (λ w. (b ≡ true) × (w ≡ x))
-  if_filled_is true x o e = rw (← e) (refl, refl)
-  if_filled_is false x o e = rw (← e) refl
+  if_filled_is : (b : Bool) (x : List ℕ) (r : Result (List ℕ) (List ℕ)) → cond b (Ok x) (Err x) ≡ r
+      → MatchResult r (λ w. (b ≡ true) × (w ≡ x)) (λ w. (b ≡ false) × (w ≡ x))
+  if_filled_is true x r e = rw (← e) (refl, refl)
+  if_filled_is false x r e = rw (← e) (refl, refl)
 
-  pub some_filled : (w : List ℕ) → if_filled c s ≡ Some w → (is_filled c s ≡ true) × (w ≡ origin c s)
-  some_filled w e = if_filled_is (is_filled c s) (origin c s) (Some w) e
+  pub some_filled : (w : List ℕ) → if_filled c s ≡ Ok w → (is_filled c s ≡ true) × (w ≡ origin c s)
+  some_filled w e = if_filled_is (is_filled c s) (origin c s) (Ok w) e
 
-  pub none_filled : if_filled c s ≡ None → is_filled c s ≡ false
-  none_filled e = if_filled_is (is_filled c s) (origin c s) None e
+  pub none_filled : (w : List ℕ) → if_filled c s ≡ Err w → is_filled c s ≡ false
+  none_filled w e = (if_filled_is (is_filled c s) (origin c s) (Err w) e).0

@@ -1,6 +1,5 @@
 -- The expansion undone: from the words of an area back to W0..15.
-use Rattle.std.specs.Prelude.{Bool, ◌&&◌, Option, List, ◌∷◌, ℕ, zero, suc, ◌+◌, ◌/◌, get_or, take}
-use Rattle.std.specs.Bool.{then_some}
+use Rattle.std.specs.Prelude.{Bool, ◌&&◌, cond, Result, Ok, Err, List, ◌∷◌, ℕ, zero, suc, ◌+◌, ◌/◌, get_or, take}
 use Rattle.laws.specs.Same.{same}
 use Rattle.word.specs.Word.{f1, f2, ◌⊞◌, ◌⊟◌}
 use Rattle.cipher.specs.declared.Cipher.{Cipher}
@@ -25,6 +24,6 @@ origin c s = take 16 (unexpansion s (table_length c / 2))
 unfoldable pub is_filled : Cipher → List ℕ → Bool
 is_filled c s = same s (filled c (origin c s)) && doubled c (origin c s)
 
--- the sixteen words, where they are those of a key and an IV that fill the area
-abbrev pub if_filled : Cipher → List ℕ → Option (List ℕ)
-if_filled c s = then_some (is_filled c s) (origin c s)
+-- the sixteen words: `Ok` where they are those of a key and an IV that fill the area, else `Err`
+abbrev pub if_filled : Cipher → List ℕ → Result (List ℕ) (List ℕ)
+if_filled c s = cond (is_filled c s) (Ok (origin c s)) (Err (origin c s))

@@ -137,13 +137,13 @@ fn is_expansion(cipher: Cipher, area: &[u32]) -> bool
     true
 }
 
-// The sixteen words that an area leads back to, where they fill all of it and stand twice where they have to.
-pub fn origin(cipher: Cipher, area: &[u32]) -> Option<[u32; 16]>
+// The sixteen words that an area leads back to: `Ok` where they fill all of it and stand twice where they have to, else `Err`.
+pub fn origin(cipher: Cipher, area: &[u32]) -> Result<[u32; 16], [u32; 16]>
     requires { length area.now ≡ area_length cipher }
     ensures { result ≡ Origin.if_filled cipher area.now }
 {
     let half = half_table(cipher);
     let words = unexpand(*area.first_chunk().unwrap(), 16, half);
     let filled = is_expansion(cipher, area) & keys::doubled(cipher, words);
-    filled.then_some(words)
+    if filled { Ok(words) } else { Err(words) }
 }

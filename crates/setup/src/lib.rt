@@ -19,8 +19,8 @@ pub fn set_up(cipher: Cipher, key: &[u8], iv: &[u8], area: &mut [u32])
     last_pass::last_pass(cipher, area);
 }
 
-// The last pass undone in the area, and the sixteen words that fill what it leaves, if there are any.
-pub fn undo_set_up(cipher: Cipher, area: &mut [u32]) -> Option<[u32; 16]>
+// The last pass undone in the area, and the sixteen words that what it leaves leads back to: `Ok` where they fill it, else `Err`.
+pub fn undo_set_up(cipher: Cipher, area: &mut [u32]) -> Result<[u32; 16], [u32; 16]>
     requires { length area.old ≡ area_length cipher }
     ensures { LedBack cipher area.old area.new result }
 {
