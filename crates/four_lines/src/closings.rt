@@ -1,13 +1,12 @@
 // Closings: each is to get its number, and to hand back its share account where it is accepted.
 use crate::lines::{Words, line};
-use crate::state::State;
+use crate::state::{State, account};
 use refusal::Refusal;
-use sharing::ShareAccount;
 use std::io;
 
 // A closing that is accepted. Gives what it is to leave.
 pub fn closes(rt: &impl Print, from: &State) -> io::Result<State> {
-    let to = ShareAccount::closed();
+    let to = account(0, [0; 4], 0);
     let is_right = sharing::close_sharing(from.account) == Ok(to);
     line(
         rt,

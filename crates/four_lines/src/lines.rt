@@ -1,5 +1,5 @@
 // The line of a case.
-use crate::state::State;
+use crate::state::{State, account};
 use engine::Head;
 use sharing::ShareAccount;
 use std::fmt::Display;
@@ -11,7 +11,7 @@ pub struct Words(pub ShareAccount);
 
 impl Display for Words {
     fn fmt<W: fmt::Write>(&self, f: &mut fmt::Formatter<W>) -> fmt::Result {
-        if self.0 == ShareAccount::closed() {
+        if self.0 == account(0, [0; 4], 0) {
             return write!(f, "closed");
         }
         let ShareAccount {

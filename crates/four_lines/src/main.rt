@@ -1,6 +1,5 @@
 // The cases of document 02 (i), four lines on one stream, for both ciphers: a line each, `ok` or `wrong`. A line says from what head, area and share
 // account a call starts, what it is to get, and where it is accepted what it is to leave.
-// Where each case begins from a state of its own, the calls stand one after another and not in an array.
 #![tactic(auto)]
 
 use cipher::Cipher;
@@ -56,6 +55,7 @@ fn large_shares(rt: &impl Print, from: &State) -> io::Result<()> {
 }
 
 // Openings at 1, which is inside a word; at 4; at 67,108,863; and at the limit, where only shares of 0 fit.
+// Each case begins from a state of its own, so the calls stand one after another and not in an array.
 fn later_openings(
     rt: &impl Print,
     inside: &State,
@@ -249,6 +249,7 @@ fn refused_lines(rt: &impl Print, closed: &State) -> io::Result<()> {
 }
 
 // Accounts that were made up, at 0. Open is any number but 0, and a draw keeps it; an account that is closed may hold anything.
+// Each case begins from a state of its own, so the calls stand one after another and not in an array.
 fn made_up(rt: &impl Print, start: &State) -> io::Result<()> {
     let all = account(u64::MAX, [u64::MAX; 4], u64::MAX);
     let left = [u64::MAX, u64::MAX, 18_446_744_073_709_551_610, u64::MAX];
@@ -280,6 +281,7 @@ fn made_up(rt: &impl Print, start: &State) -> io::Result<()> {
 }
 
 // Accounts that were made up, where the sum of a share and the common part does not fit 64 bits.
+// Each case begins from a state of its own, so the calls stand one after another and not in an array.
 fn large_sums(rt: &impl Print, start: &State) -> io::Result<()> {
     let a = start.with_account(open([u64::MAX, 0, 0, 0], 1))?;
     let b = start.with_account(open([0, 1, 0, 0], u64::MAX))?;

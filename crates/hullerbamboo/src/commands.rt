@@ -286,10 +286,13 @@ impl fmt::Display for Hex<'_> {
 
 // The name of the cipher that the first byte of a checkpoint names.
 fn name_in(string: &[u8]) -> &'static str {
-    match string.first() {
-        Some(1) => "hc128",
-        Some(2) => "hc256",
-        _ => "none",
+    let Some(&code) = string.first() else {
+        return "none";
+    };
+    match Cipher::try_from(u32::from(code)) {
+        Ok(Cipher::Hc128) => "hc128",
+        Ok(Cipher::Hc256) => "hc256",
+        Err(_) => "none",
     }
 }
 

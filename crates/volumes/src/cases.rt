@@ -66,6 +66,9 @@ product, third group announces another: 01 00 00 00 81 80 80 01: 9 gets 14
 product, third group announces another, at the end: 01 00 00 00 81 80 80: 9 gets 14
 ";
 
+// The volume that is cut, lengthened and put into lists of several sizes has two entries in 14 bytes: 1,000 litres at 525 of product 4 after no
+// minutes, and 20,000 litres at 610 of product 2 after 15 minutes.
+
 // The volume cut at every byte; numbers that are cut inside, also where no further group could bring them into their range; bytes after the volume;
 // and lists of several sizes.
 pub const READ_ENDS: &str = "\
