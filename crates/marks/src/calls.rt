@@ -6,6 +6,36 @@ use engine::answers::Next;
 use refusal::Refusal;
 use std::{fmt, io};
 
+// A cipher, its code, the bytes of its key and of its IV, the words of its area, and the bytes of its checkpoint where the position is one group.
+#[derive(Clone, Copy)]
+pub struct Sizes {
+    pub cipher: Cipher,
+    pub code: u32,
+    pub key: usize,
+    pub iv: usize,
+    pub area: usize,
+    pub checkpoint: usize,
+}
+
+pub const SIZES: [Sizes; 2] = [
+    Sizes {
+        cipher: Cipher::Hc128,
+        code: 1,
+        key: 16,
+        iv: 16,
+        area: 1_024,
+        checkpoint: 4_098,
+    },
+    Sizes {
+        cipher: Cipher::Hc256,
+        code: 2,
+        key: 32,
+        iv: 32,
+        area: 2_048,
+        checkpoint: 8_194,
+    },
+];
+
 // Where a head is: its position and its mark.
 #[derive(Clone, Copy, Debug, PartialEq, Eq)]
 pub struct Place {
@@ -51,13 +81,13 @@ impl fmt::Display for Call<'_> {
     }
 }
 
-// Whether a head of a cipher is at a place, and spent by it is its mark.
-fn is_at(head: Head, cipher: Cipher, place: Place) -> bool {
+// Whether a head of a code is at a place, and spent by it is its mark.
+fn is_at(head: Head, code: u32, place: Place) -> bool {
     let spent = Next {
         head,
         answer: Ok(place.mark),
     };
-    head.code == cipher.code() && Place::of(head) == place && head.spent() == spent
+    head.code == code && Place::of(head) == place && head.spent() == spent
 }
 
 // The line of a call by a head: the cipher, where the head was, what the call is to get, and where the head is to be then.
@@ -79,30 +109,34 @@ pub fn line(
 // A cipher, a head and its area.
 #[derive(Clone, Drop)]
 pub struct Bench {
-    pub cipher: Cipher,
+    pub sizes: Sizes,
     pub head: Head,
     pub area: Vec<u32>,
 }
 
 impl Bench {
     // A fresh head, and words that no set up made.
-    pub fn fresh(rt: &impl AllocGlobal, cipher: Cipher) -> io::Result<Bench> {
+    pub fn fresh(rt: &impl AllocGlobal, sizes: Sizes) -> io::Result<Bench> {
         Ok(Bench {
-            cipher,
+            sizes,
             head: Head::fresh(),
-            area: vec![in rt.alloc(); 7u32; cipher.area_words()]?,
+            area: vec![in rt.alloc(); 7u32; sizes.area]?,
         })
     }
 
     // Makes a call.
     fn call(&mut self, rt: &impl AllocGlobal, call: Call<'_>) -> io::Result<Next<()>> {
-        let size = self.cipher.key_bytes();
+        let Sizes {
+            code,
+            key: key_bytes,
+            iv: iv_bytes,
+            ..
+        } = self.sizes;
         Ok(match call {
             Call::SetUp(bytes) => {
                 let key = vec![in rt.alloc(); 5u8; bytes]?;
-                let iv = vec![in rt.alloc(); 6u8; size]?;
-                self.head
-                    .set_up(self.cipher.code(), &key, &iv, &mut self.area)
+                let iv = vec![in rt.alloc(); 6u8; iv_bytes]?;
+                self.head.set_up(code, &key, &iv, &mut self.area)
             }
             Call::Cipher(bytes) => {
                 let mut lent = vec![in rt.alloc(); 0u8; bytes]?;
@@ -110,8 +144,8 @@ impl Bench {
             }
             Call::Move(distance) => self.head.move_by(&mut self.area, distance),
             Call::Recover => {
-                let mut key = vec![in rt.alloc(); 0u8; size]?;
-                let mut iv = vec![in rt.alloc(); 0u8; size]?;
+                let mut key = vec![in rt.alloc(); 0u8; key_bytes]?;
+                let mut iv = vec![in rt.alloc(); 0u8; iv_bytes]?;
                 self.head.recover(&self.area, &mut key, &mut iv)
             }
             Call::Load(string) => {
@@ -133,12 +167,13 @@ impl Bench {
         position: u64,
         mark: u64,
     ) -> io::Result<()> {
+        let Sizes { cipher, code, .. } = self.sizes;
         let place = Place { position, mark };
         let before = self.head;
         let next = self.call(rt, call)?;
-        let ok = next.answer == answer && is_at(next.head, self.cipher, place);
+        let ok = next.answer == answer && is_at(next.head, code, place);
         self.head = next.head;
-        line(rt, before, call, answer, self.cipher, place, ok)
+        line(rt, before, call, answer, cipher, place, ok)
     }
 
     // Writes the checkpoint, with the head at this place, and gives it.
@@ -148,12 +183,17 @@ impl Bench {
         position: u64,
         mark: u64,
     ) -> io::Result<Vec<u8>> {
+        let Sizes {
+            cipher,
+            code,
+            checkpoint,
+            ..
+        } = self.sizes;
         let place = Place { position, mark };
-        let length = engine::checkpoint_length(self.cipher.code(), position).unwrap_or(0);
-        let mut string = vec![in rt.alloc(); 0u8; length]?;
+        let mut string = vec![in rt.alloc(); 0u8; checkpoint]?;
         let done = self.head.write(&self.area, &mut string);
-        let ok = done.answer.is_ok() && is_at(done.head, self.cipher, place);
-        line(rt, self.head, "write", Ok(()), self.cipher, place, ok)?;
+        let ok = done.answer.is_ok() && is_at(done.head, code, place);
+        line(rt, self.head, "write", Ok(()), cipher, place, ok)?;
         Ok(string)
     }
 }

@@ -1,8 +1,7 @@
 // The cases of document 02 (b), spent after a move back, for both ciphers: a line each, `ok` or `wrong`.
 #![tactic(auto)]
 
-use calls::{Bench, Call, Place, line};
-use cipher::Cipher;
+use calls::{Bench, Call, Place, SIZES, Sizes, line};
 use engine::Head;
 use engine::answers::Next;
 use refusal::Refusal;
@@ -12,10 +11,10 @@ mod calls;
 
 // The request's own case, an operator who moves back to look at an old entry; then bytes before the mark, up to it, past it and across it; and a move
 // beyond it, where no bytes leave it and one byte raises it. Gives the bench at 20, with the mark 32.
-fn looked_back(rt: &(impl Print + AllocGlobal), cipher: Cipher) -> io::Result<Bench> {
-    let mut bench = Bench::fresh(rt, cipher)?;
+fn looked_back(rt: &(impl Print + AllocGlobal), sizes: Sizes) -> io::Result<Bench> {
+    let mut bench = Bench::fresh(rt, sizes)?;
     for (call, position, mark) in [
-        (Call::SetUp(cipher.key_bytes()), 0, 0),
+        (Call::SetUp(sizes.key), 0, 0),
         (Call::Cipher(10), 10, 10),
         (Call::Move(-7), 3, 10),
         (Call::Cipher(2), 5, 10),
@@ -37,7 +36,7 @@ fn looked_back(rt: &(impl Print + AllocGlobal), cipher: Cipher) -> io::Result<Be
 // is empty and one that is cut. Load makes the mark the loaded position. Gives the checkpoint.
 fn kept(rt: &(impl Print + AllocGlobal), bench: &Bench) -> io::Result<Vec<u8>> {
     let string = bench.writes(rt, 20, 32)?;
-    let short = bench.cipher.key_bytes().saturating_sub(1);
+    let short = bench.sizes.key.saturating_sub(1);
     let cut = match string.split_last() {
         Some((_, rest)) => rest,
         None => &[],
@@ -54,7 +53,7 @@ fn kept(rt: &(impl Print + AllocGlobal), bench: &Bench) -> io::Result<Vec<u8>> {
     }
     let load = Call::Load(&string);
     bench.clone()?.makes(rt, load, Ok(()), 20, 20)?;
-    Bench::fresh(rt, bench.cipher)?.makes(rt, load, Ok(()), 20, 20)?;
+    Bench::fresh(rt, bench.sizes)?.makes(rt, load, Ok(()), 20, 20)?;
     Ok(string)
 }
 
@@ -67,8 +66,7 @@ fn made_up(
     mark: u64,
     larger: u64,
 ) -> io::Result<()> {
-    let cipher = bench.cipher;
-    let code = cipher.code();
+    let Sizes { cipher, code, .. } = bench.sizes;
     let over = 67_108_865;
     for (code, position, call, answer) in [
         (code, 20, "spent", Ok(mark)),
@@ -110,8 +108,8 @@ fn at_limit(rt: &(impl Print + AllocGlobal), bench: &mut Bench) -> io::Result<()
 
 // Set up by a used head starts the mark at 0. From there two lists of calls come to one position with different marks, and write the same checkpoint.
 fn two_lists(rt: &(impl Print + AllocGlobal), mut bench: Bench) -> io::Result<()> {
-    let cipher = bench.cipher;
-    bench.makes(rt, Call::SetUp(cipher.key_bytes()), Ok(()), 0, 0)?;
+    let Sizes { cipher, key, .. } = bench.sizes;
+    bench.makes(rt, Call::SetUp(key), Ok(()), 0, 0)?;
     let mut other = bench.clone()?;
     bench.makes(rt, Call::Move(3), Ok(()), 3, 0)?;
     other.makes(rt, Call::Cipher(10), Ok(()), 10, 10)?;
@@ -124,8 +122,8 @@ fn two_lists(rt: &(impl Print + AllocGlobal), mut bench: Bench) -> io::Result<()
 }
 
 // The cases of a cipher. The marks made up are the smallest and the largest, those around the position, and those on both sides of the limit.
-fn of_cipher(rt: &(impl Print + AllocGlobal), cipher: Cipher) -> io::Result<()> {
-    let mut bench = looked_back(rt, cipher)?;
+fn of_cipher(rt: &(impl Print + AllocGlobal), sizes: Sizes) -> io::Result<()> {
+    let mut bench = looked_back(rt, sizes)?;
     let string = kept(rt, &bench)?;
     for (mark, larger) in [
         (0, 21),
@@ -144,8 +142,8 @@ fn of_cipher(rt: &(impl Print + AllocGlobal), cipher: Cipher) -> io::Result<()> 
 }
 
 fn main(rt: HostRuntime) -> io::Result<()> {
-    for cipher in [Cipher::Hc128, Cipher::Hc256] {
-        of_cipher(&rt, cipher)?;
+    for sizes in SIZES {
+        of_cipher(&rt, sizes)?;
     }
     Ok(())
 }
