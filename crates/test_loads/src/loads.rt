@@ -5,6 +5,33 @@ use engine::Head;
 use engine::answers::Next;
 use std::io;
 
+// A cipher, its code, the bytes of its key and of its IV, and the words of its area.
+#[derive(Clone, Copy)]
+pub struct Sizes {
+    pub cipher: Cipher,
+    pub code: u32,
+    pub key: usize,
+    pub iv: usize,
+    pub area: usize,
+}
+
+pub const SIZES: [Sizes; 2] = [
+    Sizes {
+        cipher: Cipher::Hc128,
+        code: 1,
+        key: 16,
+        iv: 16,
+        area: 1_024,
+    },
+    Sizes {
+        cipher: Cipher::Hc256,
+        code: 2,
+        key: 32,
+        iv: 32,
+        area: 2_048,
+    },
+];
+
 // The bytes that a write by a head puts into a buffer of zeros.
 fn written(rt: &impl AllocGlobal, head: Head, area: &[u32]) -> io::Result<Vec<u8>> {
     let mut lent = vec![in rt.alloc(); 0u8; 8197]?;
@@ -15,17 +42,18 @@ fn written(rt: &impl AllocGlobal, head: Head, area: &[u32]) -> io::Result<Vec<u8
 // The line of a load that is accepted, from a head that was made up.
 pub fn accepts(
     rt: &(impl Print + AllocGlobal),
-    cipher: Cipher,
+    sizes: Sizes,
     seed: u32,
     count: u64,
     position: u64,
     mark: u64,
 ) -> io::Result<()> {
-    let code = cipher.code();
-    let key = vec![in rt.alloc(); 5u8; cipher.key_bytes()]?;
-    let mut area = vec![in rt.alloc(); 7u32; cipher.area_words()]?;
+    let Sizes { cipher, code, .. } = sizes;
+    let key = vec![in rt.alloc(); 5u8; sizes.key]?;
+    let iv = vec![in rt.alloc(); 5u8; sizes.iv]?;
+    let mut area = vec![in rt.alloc(); 7u32; sizes.area]?;
     let before = Head::at(9, 67_108_865, 8, 7);
-    let loaded = test_load::test_load(before, seed, count, code, &key, &key, &mut area);
+    let loaded = test_load::test_load(before, seed, count, code, &key, &iv, &mut area);
     let head = loaded.head;
     let there = Head::at(code, position, head.word, mark);
     let spent = Next {
@@ -35,7 +63,7 @@ pub fn accepts(
     let ended = loaded.answer.is_ok() && head == there && head.spent() == spent;
     let first = written(rt, head, &area)?;
 
-    let start = Head::fresh().set_up(code, &key, &key, &mut area);
+    let start = Head::fresh().set_up(code, &key, &iv, &mut area);
     let moved = move_to::move_to(start.head, &mut area, position);
     let second = written(rt, moved.head, &area)?;
 

@@ -1,8 +1,7 @@
 // The cases of document 02 (h), a test load that can be repeated, for both ciphers: a line each, `ok` or `wrong`.
 #![tactic(auto)]
 
-use cipher::Cipher;
-use loads::accepts;
+use loads::{SIZES, Sizes, accepts};
 use refusal::Refusal;
 use refusals::{Load, refuses};
 use std::io;
@@ -38,12 +37,13 @@ const ACCEPTED: [(u32, u64, u64, u64); 22] = [
     (4_294_967_295, 1_000, 4_330, 4_609),
 ];
 
-// Each refusal by itself, at the edges of its range; then each refusal before the one that comes next, and the first two before all others.
-fn refused(rt: &(impl Print + AllocGlobal), cipher: Cipher) -> io::Result<()> {
-    let code = cipher.code();
-    let (m, n) = (cipher.key_bytes(), cipher.area_words());
-    let (short, long) = (m.saturating_sub(1), m + 1);
-    let (few, many) = (n.saturating_sub(1), n + 1);
+// Each refusal by itself, at the edges of its range; then each refusal before the one that comes next, and the first two before all others. Key and IV
+// are to have m bytes each, and the area n words.
+fn refused(rt: &(impl Print + AllocGlobal), sizes: Sizes) -> io::Result<()> {
+    let code = sizes.code;
+    let (m, n) = (sizes.key, sizes.area);
+    let (short, long) = (m.saturating_sub(1), m.saturating_add(1));
+    let (few, many) = (n.saturating_sub(1), n.saturating_add(1));
     for (seed, count, code, key, iv, area, refusal) in [
         (0, 0, code, m, m, n, Refusal::SeedZero),
         (0, 1_000, code, m, m, n, Refusal::SeedZero),
@@ -83,13 +83,13 @@ fn refused(rt: &(impl Print + AllocGlobal), cipher: Cipher) -> io::Result<()> {
 }
 
 fn main(rt: HostRuntime) -> io::Result<()> {
-    for cipher in [Cipher::Hc128, Cipher::Hc256] {
+    for sizes in SIZES {
         for (seed, count, position, mark) in ACCEPTED {
-            accepts(&rt, cipher, seed, count, position, mark)?;
+            accepts(&rt, sizes, seed, count, position, mark)?;
         }
     }
-    for cipher in [Cipher::Hc128, Cipher::Hc256] {
-        refused(&rt, cipher)?;
+    for sizes in SIZES {
+        refused(&rt, sizes)?;
     }
     Ok(())
 }
