@@ -1,6 +1,6 @@
 // Pairs of checkpoints of one cipher: of one run at two positions, and of runs whose key or IV is another.
 use crate::check;
-use crate::strings::{Run, change};
+use crate::strings::{Run, change, key_bytes};
 use std::io;
 
 // One run: the same position; positions inside one word, which have the same tables; positions on both sides of a word's end, of the places where the
@@ -52,7 +52,7 @@ fn changed(bytes: [u8; 32], at: usize) -> [u8; 32] {
 // Runs whose key and IV differ in one bit of their first or last byte, or are exchanged, at one position and at two. Each pair in both orders.
 pub fn other_runs(rt: &(impl Print + AllocGlobal), run: Run) -> io::Result<()> {
     let Run { cipher, key, iv } = run;
-    let last = cipher.key_bytes() - 1;
+    let last = key_bytes(cipher) - 1;
     for (p, q) in [(0, 0), (5, 5), (777, 20)] {
         for (case, key, iv) in [
             ("first byte of the key", changed(key, 0), iv),

@@ -1,8 +1,20 @@
 // The strings of the cases: checkpoints of a run at a position, others that are changed, and others that only begin as one.
+ghost use Rattle.std.specs.Prelude.{◌≤◌};
+
 use cipher::Cipher;
 use engine::Head;
 use std::alloc::Global;
 use std::io;
+
+// The bytes of a cipher's key, and of its IV. Its area has 64 words for each.
+pub fn key_bytes(cipher: Cipher) -> usize
+    ensures { (1 ≤ result) × (result ≤ 32) }
+{
+    match cipher {
+        Cipher::Hc128 => 16,
+        Cipher::Hc256 => 32,
+    }
+}
 
 // A run: the first bytes of a key and an IV, as many as the cipher has.
 #[derive(Clone, Copy)]
@@ -15,11 +27,12 @@ pub struct Run {
 impl Run {
     // The checkpoint at a position.
     pub fn checkpoint(&self, alloc: Global, position: u32) -> io::Result<Vec<u8>> {
-        let key = &self.key[..self.cipher.key_bytes()];
-        let iv = &self.iv[..self.cipher.iv_bytes()];
-        let mut area = vec![in alloc; 0; self.cipher.area_words()]?;
+        let n = key_bytes(self.cipher);
+        let key = &self.key[..n];
+        let iv = &self.iv[..n];
+        let mut area = vec![in alloc; 0; 64 * n]?;
         let mut bytes = vec![in alloc; 0; length(self.cipher, 4)]?;
-        let start = Head::fresh().set_up(self.cipher.code(), key, iv, &mut area);
+        let start = Head::fresh().set_up(self.code_byte().into(), key, iv, &mut area);
         let there = start.head.move_by(&mut area, position.into());
         let written = there.head.write(&area, &mut bytes);
         bytes.truncate(written.answer.unwrap_or(0));
@@ -28,7 +41,10 @@ impl Run {
 
     // The code of the cipher as a checkpoint has it.
     pub fn code_byte(&self) -> u8 {
-        self.cipher.row().code
+        match self.cipher {
+            Cipher::Hc128 => 1,
+            Cipher::Hc256 => 2,
+        }
     }
 
     // The run of the same key and IV by the other cipher.
@@ -43,7 +59,7 @@ impl Run {
 
 // The length of a cipher's checkpoint whose position has so many groups, 4 at most.
 pub fn length(cipher: Cipher, groups: usize) -> usize {
-    1 + groups.min(4) + 4 * cipher.area_words()
+    256 * key_bytes(cipher) + 1 + groups.min(4)
 }
 
 // Changes one bit of the byte at a place.
