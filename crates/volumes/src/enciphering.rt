@@ -106,10 +106,6 @@ pub fn encipher_each(
     cipher: Cipher,
     table: &str,
 ) -> io::Result<()> {
-    let call = match cipher {
-        Cipher::Hc128 => "HC-128 encipher",
-        Cipher::Hc256 => "HC-256 encipher",
-    };
     each(rt, table, |case, volume, numbers| {
         let [known, position, mark, change, short, refusal, ends @ ..] = numbers else {
             return no_numbers(rt, case);
@@ -124,6 +120,7 @@ pub fn encipher_each(
             refusal: u64::from(*refusal),
         };
         let is_right = row.is_right(rt.alloc(), volume, ends)?;
+        let call = format_args!("{cipher} encipher");
         line(rt, call, case, row.refusal, is_right)
     })
 }

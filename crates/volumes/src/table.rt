@@ -1,6 +1,7 @@
 // Tables of cases, in text. A line is a case: its name up to `:`, the bytes of a volume, or of a table of rates, in hexadecimal, up to `:`, and numbers
 // in other text.
 use std::alloc::Global;
+use std::fmt::Display;
 use std::io;
 
 // The bytes of a text of two hexadecimal digits each.
@@ -46,7 +47,7 @@ pub fn each<F: Fn(&str, &[u8], &[u32]) -> io::Result<()>>(
 // Prints the line of a case: what is called, the case, the refusal number that it is to get, 0 where it is accepted, and whether it is so.
 pub fn line(
     rt: &impl Print,
-    call: &str,
+    call: impl Display + Drop,
     case: &str,
     refusal: u64,
     is_right: bool,
