@@ -215,11 +215,11 @@ uint64_t hc_set_up(struct hc_head *head, uint32_t code, const uint8_t *key, size
 /* Cipher: replaces each lent byte by its exclusive or with the keystream byte, and advances by byte_count. The same call enciphers and deciphers.
  * Any number of bytes may be given at a time, also 0, which changes nothing. A call of one byte or more makes the mark the larger of the mark and the
  * position at its end.
- * Refusals: 1, 4, 5, 13, 6. Stack: 240 bytes. */
+ * Refusals: 1, 4, 5, 13, 6. Stack: 224 bytes. */
 uint64_t hc_cipher(struct hc_head *head, uint32_t *area, size_t area_words, uint8_t *bytes, size_t byte_count);
 
 /* Move: takes head and tables forward, or back where distance is negative, by a number of bytes; the mark stays. The time grows with the distance.
- * Refusals: 1, 4, 5, 13, 7, 6. Stack: 128 bytes. */
+ * Refusals: 1, 4, 5, 13, 7, 6. Stack: 112 bytes. */
 uint64_t hc_move(struct hc_head *head, uint32_t *area, size_t area_words, int64_t distance);
 
 /* Checkpoint length: how many bytes the checkpoint of a cipher has at a position: 1, plus the bytes of the position as a number (1 below 128, 2 below
@@ -230,17 +230,17 @@ struct hc_length hc_checkpoint_length(uint32_t code, uint64_t position);
 
 /* Write: puts the checkpoint of head and area at the start of the lent bytes and returns its length; later bytes, area and head stay. Lend at least
  * the length that hc_checkpoint_length gives for the head's code and position. A checkpoint does not hold the mark.
- * Refusals: 1, 4, 5, 13, 8. Stack: 72 bytes. */
+ * Refusals: 1, 4, 5, 13, 8. Stack: 56 bytes. */
 struct hc_length hc_write(struct hc_head *head, const uint32_t *area, size_t area_words, uint8_t *lent, size_t lent_bytes);
 
 /* Recover: fills the buffers with the key and the IV from which the tables came. Area and head stay. It takes every step back to set up.
- * Refusals: 1, 4, 5, 13, 2, 3, 12. Stack: 8,672 bytes. */
+ * Refusals: 1, 4, 5, 13, 2, 3, 12. Stack: 8,768 bytes. */
 uint64_t hc_recover(struct hc_head *head, const uint32_t *area, size_t area_words, uint8_t *key, size_t key_bytes, uint8_t *iv, size_t iv_bytes);
 
 /* Load: fills area and head from a checkpoint, whatever the head was, and returns its key and IV. The mark becomes the loaded position. The area must
  * already have the size for the checkpoint's cipher. string is the checkpoint and no byte more. Before it accepts, it takes every step back to set
  * up and checks the key and IV that it finds there.
- * Refusals: 9, 1, 4, then for the position 10 or 9, then 5, 11, 12. Stack: 8,816 bytes. */
+ * Refusals: 9, 1, 4, then for the position 10 or 9, then 5, 11, 12. Stack: 9,056 bytes. */
 struct hc_words hc_load(struct hc_head *head, uint32_t *area, size_t area_words, const uint8_t *string, size_t string_bytes);
 
 /* Same run: whether two checkpoints belong to one run, which means that they have the same key and IV, at whatever positions. It is yes exactly where
@@ -248,7 +248,7 @@ struct hc_words hc_load(struct hc_head *head, uint32_t *area, size_t area_words,
  * and no byte more. No area and no head is needed. A run that was set up again with the same key and IV can't be told from the first. For each
  * checkpoint it takes every step back to set up, as hc_load does, so that the time grows with both positions.
  * Refusals: those of hc_load but for 4, which is about an area: 9, 1, then for the position 10 or 9, then 5, 11, 12, for first; then these for
- * second; then 23 where the two are of different ciphers. hc_same_run(first, first) tells whether it was first that was refused. Stack: 8,616 bytes.
+ * second; then 23 where the two are of different ciphers. hc_same_run(first, first) tells whether it was first that was refused. Stack: 8,840 bytes.
  *
  * Whether a spare board's checkpoint is of the same run as the box's:
  *
@@ -271,7 +271,7 @@ struct hc_yes_or_no hc_same_run(const uint8_t *first, size_t first_bytes, const 
  * this code, key and IV at the position that the words lead to, which is never over 260,095. With a count of 0 it is the set up alone. Wherever this
  * page speaks of a set up, a test load is one. Give it a key and an IV with which nothing else is enciphered, for it uses keystream from position 0
  * on and leaves some of it on the stack.
- * Refusals: 17 where the seed is 0, 18 where count is over HC_TEST_CALLS, then 1, 2, 3, 4 as hc_set_up. Stack: 816 bytes.
+ * Refusals: 17 where the seed is 0, 18 where count is over HC_TEST_CALLS, then 1, 2, 3, 4 as hc_set_up. Stack: 1,120 bytes.
  *
  *     From seed 1 come 0x00042021, 0x04080601, 0x9DCCA8C5, 0x1255994F and 0x8EF917D1, cipher calls over 2, 256, 166, 253 and 146 bytes,
  *     and then 0x2C6F5BD0, a move to byte 3560: the position is 3560 and the mark 823.
@@ -289,7 +289,7 @@ struct hc_count hc_spent(struct hc_head *head);
 /* Write volume: puts the volume of these entries at the start of the lent bytes and returns its length; later bytes and the entries stay.
  * numbers is four times the count of entries.
  * Refusals: 16 where numbers is not a multiple of 4; 15 for more than HC_VOLUME_ENTRIES entries or a number out of its range; 8 for fewer lent
- * bytes than the volume has. Stack: 40 bytes. */
+ * bytes than the volume has. Stack: 48 bytes. */
 struct hc_length hc_write_volume(const uint32_t *entries, size_t numbers, uint8_t *lent, size_t lent_bytes);
 
 /* Read volume: puts the entries of a volume at the start of the lent list and returns their count; later elements stay. volume is the volume and no
@@ -303,7 +303,7 @@ struct hc_count hc_read_volume(const uint8_t *volume, size_t volume_bytes, uint3
 /* Encipher volume: enciphers a written volume in its buffer, as hc_cipher does with these bytes: position, tables, word and mark are then those after
  * that call. volume is the volume and no byte more: lend as many bytes as hc_write_volume returned. hc_cipher deciphers it again, at the same
  * position.
- * Refusals: 16, 14, 15 as hc_read_volume, then 1, 4, 5, 13, 6 as hc_cipher. Stack: 304 bytes.
+ * Refusals: 16, 14, 15 as hc_read_volume, then 1, 4, 5, 13, 6 as hc_cipher. Stack: 288 bytes.
  *
  * A shift's entries, written and enciphered:
  *
@@ -325,7 +325,7 @@ struct hc_rates hc_our_rates(void);
  * string and no byte more. Where it is refused, the table in use stays.
  * Refusals, for the first number from the string's start that is at fault: 24 where the string ends before the number's last group, where it is not
  * in its shortest form, where its third group announces another, or where it is out of its range; 25 where it is a product that is not above the
- * product before it (24 where it earns both); then 24 for bytes after the last pair. Stack: 72 bytes.
+ * product before it (24 where it earns both); then 24 for bytes after the last pair. Stack: 56 bytes.
  *
  * A refinery with duty on two products:
  *
@@ -366,7 +366,7 @@ uint64_t hc_check_recordings(const uint8_t *blender, size_t blender_bytes, const
  *     the recording that goes on, where the other has ended;
  *     else the one whose ratio there is the smaller, and the blender's where the ratios are equal;
  *     the blender's, where both have ended: its empty end, so that from is blender_bytes and length is 0.
- * Refusals: those of hc_check_recordings, which returns the number; here all three fields are then 0. Stack: 240 bytes.
+ * Refusals: those of hc_check_recordings, which returns the number; here all three fields are then 0. Stack: 256 bytes.
  *
  * Where the recordings first differ:
  *
