@@ -1,4 +1,5 @@
 // Words, bytes and heads, filled and compared.
+use arrayvec::ArrayVec;
 use cipher::Cipher;
 use engine::Head;
 use engine::answers::Next;
@@ -51,18 +52,18 @@ pub fn is_filled<T: Wraps>(items: &[T], first: T, stride: T) -> bool {
     true
 }
 
-// So many words, as `fill` leaves them.
-pub fn words(rt: &impl AllocGlobal, n: usize, first: u32, stride: u32) -> io::Result<Vec<u32>> {
-    let mut words = vec![in rt.alloc(); first; n]?;
-    fill(&mut words, first, stride);
-    Ok(words)
-}
-
-// So many bytes, as `fill` leaves them.
-pub fn bytes(rt: &impl AllocGlobal, n: usize, first: u8, stride: u8) -> io::Result<Vec<u8>> {
-    let mut bytes = vec![in rt.alloc(); first; n]?;
-    fill(&mut bytes, first, stride);
-    Ok(bytes)
+// So many words or bytes, as `fill` leaves them; an error where they are more than N.
+pub fn items<T: Wraps + Default, const N: usize>(
+    n: usize,
+    first: T,
+    stride: T,
+) -> io::Result<ArrayVec<T, N>> {
+    if N < n {
+        return Err(io::ErrorKind::InvalidInput.into());
+    }
+    let mut items = buffers::filled(first, n);
+    fill(&mut items, first, stride);
+    Ok(items)
 }
 
 // Changes a byte and gives what it was; where there is none, the new one.

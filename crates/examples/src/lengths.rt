@@ -1,5 +1,5 @@
 // The length of a checkpoint, on both sides of each position where its groups grow in number.
-use cipher::Cipher;
+use crate::sizes::Sizes;
 use refusal::Refusal;
 use std::io;
 
@@ -29,8 +29,8 @@ pub fn unknown_codes(rt: &impl Print) -> io::Result<()> {
 }
 
 // The lengths of a cipher's checkpoints.
-pub fn of_cipher(rt: &impl Print, cipher: Cipher) -> io::Result<()> {
-    let tables = 4 * cipher.area_words();
+pub fn of_cipher(rt: &impl Print, sizes: Sizes) -> io::Result<()> {
+    let Sizes { code, tables, .. } = sizes;
     for (position, answer) in [
         (0, Ok(tables + 2)),
         (127, Ok(tables + 2)),
@@ -43,7 +43,7 @@ pub fn of_cipher(rt: &impl Print, cipher: Cipher) -> io::Result<()> {
         (67_108_865, Err(Refusal::BadPosition)),
         (u64::MAX, Err(Refusal::BadPosition)),
     ] {
-        case(rt, cipher.code(), position, answer)?;
+        case(rt, code, position, answer)?;
     }
     Ok(())
 }

@@ -37,7 +37,10 @@ pub fn gets(
 
 // The cipher that a line names by a head's code.
 fn cipher_of(code: u32) -> Cipher {
-    Cipher::try_from(code).unwrap_or(Cipher::Hc256)
+    match code {
+        1 => Cipher::Hc128,
+        _ => Cipher::Hc256,
+    }
 }
 
 // The line of a step of a cipher's story, with its position.

@@ -1,9 +1,8 @@
 // Calls that leave everything as it is: every refusal of every call, and calls with nothing to do, which get 0.
-use crate::compare::{
-    ANY, MARK, STRIDE, bytes, fill, flipped, head_on, is_filled, put_opening, words,
-};
+use crate::compare::{ANY, MARK, STRIDE, fill, flipped, head_on, is_filled, items, put_opening};
 use crate::line::{Hex, gets};
-use cipher::Cipher;
+use crate::sizes::Sizes;
+use arrayvec::ArrayVec;
 use engine::Head;
 use engine::answers::Next;
 use refusal::Refusal;
@@ -13,13 +12,12 @@ use std::{fmt, io};
 
 // Cipher, of so many bytes.
 pub fn refuses_cipher(
-    rt: &impl AllocGlobal,
     head: Head,
     area: &mut [u32],
     n: usize,
     answer: Result<(), Refusal>,
 ) -> io::Result<bool> {
-    let mut lent = bytes(rt, n, 5, 3)?;
+    let mut lent: ArrayVec<u8, 5> = items(n, 5, 3)?;
     let next = head.cipher(area, &mut lent);
     Ok(next == Next { head, answer } && is_filled(&lent, 5, 3))
 }
@@ -35,14 +33,8 @@ pub fn refuses_move(
 }
 
 // Write, where so many bytes are lent.
-pub fn refuses_write(
-    rt: &impl AllocGlobal,
-    head: Head,
-    area: &[u32],
-    n: usize,
-    refusal: Refusal,
-) -> io::Result<bool> {
-    let mut lent = bytes(rt, n, 5, 3)?;
+pub fn refuses_write(head: Head, area: &[u32], n: usize, refusal: Refusal) -> io::Result<bool> {
+    let mut lent: ArrayVec<u8, 8197> = items(n, 5, 3)?;
     let next = head.write(area, &mut lent);
     let answer = Err(refusal);
     Ok(next == Next { head, answer } && is_filled(&lent, 5, 3))
@@ -50,15 +42,14 @@ pub fn refuses_write(
 
 // Recover, with buffers of these lengths.
 pub fn refuses_recover(
-    rt: &impl AllocGlobal,
     head: Head,
     area: &[u32],
     key: usize,
     iv: usize,
     refusal: Refusal,
 ) -> io::Result<bool> {
-    let mut key = bytes(rt, key, 5, 3)?;
-    let mut iv = bytes(rt, iv, 6, 5)?;
+    let mut key: ArrayVec<u8, 33> = items(key, 5, 3)?;
+    let mut iv: ArrayVec<u8, 33> = items(iv, 6, 5)?;
     let next = head.recover(area, &mut key, &mut iv);
     let answer = Err(refusal);
     Ok(next == Next { head, answer } && is_filled(&key, 5, 3) && is_filled(&iv, 6, 5))
@@ -75,15 +66,14 @@ pub fn refuses_load(string: &[u8], area: &mut [u32], refusal: Refusal) -> bool {
 
 // Set up, with a key and an IV of these lengths.
 fn refuses_set_up(
-    rt: &impl AllocGlobal,
     code: u32,
     area: &mut [u32],
     key: usize,
     iv: usize,
     answer: Result<(), Refusal>,
 ) -> io::Result<bool> {
-    let key = bytes(rt, key, 0, 0)?;
-    let iv = bytes(rt, iv, 0, 0)?;
+    let key: ArrayVec<u8, 33> = items(key, 0, 0)?;
+    let iv: ArrayVec<u8, 33> = items(iv, 0, 0)?;
     let head = Head::at(2, 77, ANY, MARK);
     Ok(head.set_up(code, &key, &iv, area) == Next { head, answer })
 }
@@ -181,43 +171,37 @@ impl Case<'_> {
     }
 
     // Whether load of a string with the code and the bytes of a position, and of this length, is refused.
-    fn load_is_refused(
-        self,
-        rt: &impl AllocGlobal,
-        position: &[u8],
-        n: usize,
-        refusal: Refusal,
-    ) -> io::Result<bool> {
-        let mut string = bytes(rt, n, 5, 3)?;
-        let mut area = words(rt, self.area, 0, 0)?;
+    fn load_is_refused(self, position: &[u8], n: usize, refusal: Refusal) -> io::Result<bool> {
+        let mut string: ArrayVec<u8, 8200> = items(n, 5, 3)?;
+        let mut area: ArrayVec<u32, 2049> = items(self.area, 0, 0)?;
         put_opening(&mut string, (self.code % 256) as u8, position);
         Ok(refuses_load(&string, &mut area, refusal))
     }
 
     // Whether the call is refused, and everything stays.
-    fn is_refused(self, rt: &impl AllocGlobal, refusal: Refusal) -> io::Result<bool> {
-        let same = words(rt, self.area, 7, 0)?;
+    fn is_refused(self, refusal: Refusal) -> io::Result<bool> {
+        let same: ArrayVec<u32, 2049> = items(self.area, 7, 0)?;
         match self.call {
-            Call::Write(at, n) => refuses_write(rt, self.head(at, &same), &same, n, refusal),
+            Call::Write(at, n) => refuses_write(self.head(at, &same), &same, n, refusal),
             Call::Recover(at, key, iv) => {
-                refuses_recover(rt, self.head(at, &same), &same, key, iv, refusal)
+                refuses_recover(self.head(at, &same), &same, key, iv, refusal)
             }
-            Call::Load(position, n) => self.load_is_refused(rt, position, n, refusal),
+            Call::Load(position, n) => self.load_is_refused(position, n, refusal),
             Call::Spent(at) => {
                 let head = Head::at(self.code, at, ANY, MARK);
                 let answer = Err(refusal);
                 Ok(head.spent() == Next { head, answer })
             }
-            _ => self.leaves_all(rt, Err(refusal)),
+            _ => self.leaves_all(Err(refusal)),
         }
     }
 
     // Whether a call that may change the area gets an answer, and everything stays.
-    fn leaves_all(self, rt: &impl AllocGlobal, answer: Result<(), Refusal>) -> io::Result<bool> {
-        let mut area = words(rt, self.area, 7, STRIDE)?;
+    fn leaves_all(self, answer: Result<(), Refusal>) -> io::Result<bool> {
+        let mut area: ArrayVec<u32, 2049> = items(self.area, 7, STRIDE)?;
         let ok = match self.call {
-            Call::SetUp(key, iv) => refuses_set_up(rt, self.code, &mut area, key, iv, answer)?,
-            Call::Cipher(at, n) => refuses_cipher(rt, self.head(at, &area), &mut area, n, answer)?,
+            Call::SetUp(key, iv) => refuses_set_up(self.code, &mut area, key, iv, answer)?,
+            Call::Cipher(at, n) => refuses_cipher(self.head(at, &area), &mut area, n, answer)?,
             Call::Move(at, distance) => {
                 refuses_move(self.head(at, &area), &mut area, distance, answer)
             }
@@ -227,24 +211,20 @@ impl Case<'_> {
     }
 
     // The line of the case where it is refused.
-    pub fn is_to_get(self, rt: &(impl Print + AllocGlobal), refusal: Refusal) -> io::Result<()> {
-        let ok = self.is_refused(rt, refusal)?;
+    pub fn is_to_get(self, rt: &impl Print, refusal: Refusal) -> io::Result<()> {
+        let ok = self.is_refused(refusal)?;
         gets(rt, self, Err(refusal), ok)
     }
 
     // The line of the case where there is nothing to do.
-    fn is_to_do_nothing(self, rt: &(impl Print + AllocGlobal)) -> io::Result<()> {
-        let ok = self.leaves_all(rt, Ok(()))?;
+    fn is_to_do_nothing(self, rt: &impl Print) -> io::Result<()> {
+        let ok = self.leaves_all(Ok(()))?;
         gets(rt, self, Ok(()), ok)
     }
 }
 
 // Calls with a code and areas of these lengths, each with its refusal.
-fn refuses(
-    rt: &(impl Print + AllocGlobal),
-    code: u32,
-    cases: &[(Call<'_>, usize, Refusal)],
-) -> io::Result<()> {
+fn refuses(rt: &impl Print, code: u32, cases: &[(Call<'_>, usize, Refusal)]) -> io::Result<()> {
     for &(call, area, refusal) in cases {
         let case = Case {
             code,
@@ -260,9 +240,8 @@ fn refuses(
 // A position over the limit.
 const OVER: u64 = 67_108_865;
 
-// A code that is neither cipher's is refused by each call that takes a code or a head, with a cipher's lengths, and whatever else is wrong.
-fn unknown_code(rt: &(impl Print + AllocGlobal), code: u32, cipher: Cipher) -> io::Result<()> {
-    let (key, area) = (cipher.key_bytes(), cipher.area_words());
+// A code that is neither cipher's is refused by each call that takes a code or a head, with these lengths, and whatever else is wrong.
+fn unknown_code(rt: &impl Print, code: u32, key: usize, area: usize) -> io::Result<()> {
     let (short, few) = (key.saturating_sub(1), area.saturating_sub(1));
     for (call, area) in [
         (Call::SetUp(key, key), area),
@@ -285,12 +264,17 @@ fn unknown_code(rt: &(impl Print + AllocGlobal), code: u32, cipher: Cipher) -> i
 
 // The smallest code and the one after HC-256's; codes whose low bits are a cipher's; the largest byte and the largest code. Then checkpoints whose
 // first byte is neither cipher's code.
-pub fn unknown_codes(rt: &(impl Print + AllocGlobal)) -> io::Result<()> {
-    for code in [0, 3, 255, 257, 65_537] {
-        unknown_code(rt, code, Cipher::Hc128)?;
-    }
-    for code in [16_777_218, u32::MAX] {
-        unknown_code(rt, code, Cipher::Hc256)?;
+pub fn unknown_codes(rt: &impl Print) -> io::Result<()> {
+    for (code, key, area) in [
+        (0, 16, 1024),
+        (3, 16, 1024),
+        (255, 16, 1024),
+        (257, 16, 1024),
+        (65_537, 16, 1024),
+        (16_777_218, 32, 2048),
+        (u32::MAX, 32, 2048),
+    ] {
+        unknown_code(rt, code, key, area)?;
     }
     for code in [0, 3, 255] {
         for (call, area) in [
@@ -304,7 +288,7 @@ pub fn unknown_codes(rt: &(impl Print + AllocGlobal)) -> io::Result<()> {
 }
 
 // Lengths of the other cipher, and an area of none.
-pub fn other_lengths(rt: &(impl Print + AllocGlobal)) -> io::Result<()> {
+pub fn other_lengths(rt: &impl Print) -> io::Result<()> {
     for (code, call, area, refusal) in [
         (2, Call::SetUp(16, 16), 1024, Refusal::KeyLength),
         (1, Call::SetUp(16, 32), 1024, Refusal::IvLength),
@@ -329,27 +313,23 @@ pub fn other_lengths(rt: &(impl Print + AllocGlobal)) -> io::Result<()> {
 }
 
 // A call of a cipher with nothing to do.
-fn nothing_to_do(
-    rt: &(impl Print + AllocGlobal),
-    cipher: Cipher,
-    call: Call<'_>,
-) -> io::Result<()> {
+fn nothing_to_do(rt: &impl Print, sizes: Sizes, call: Call<'_>) -> io::Result<()> {
     let case = Case {
-        code: cipher.code(),
+        code: sizes.code,
         call,
         bits: 0,
-        area: cipher.area_words(),
+        area: sizes.area,
     };
     case.is_to_do_nothing(rt)
 }
 
-fn set_up_cases(rt: &(impl Print + AllocGlobal), cipher: Cipher) -> io::Result<()> {
-    let (m, n) = (cipher.key_bytes(), cipher.area_words());
+fn set_up_cases(rt: &impl Print, sizes: Sizes) -> io::Result<()> {
+    let (m, n) = (sizes.key, sizes.area);
     let (short, long) = (m.saturating_sub(1), m + 1);
     let (few, many) = (n.saturating_sub(1), n + 1);
     refuses(
         rt,
-        cipher.code(),
+        sizes.code,
         &[
             (Call::SetUp(0, 0), 0, Refusal::KeyLength),
             (Call::SetUp(short, short), n, Refusal::KeyLength),
@@ -362,12 +342,12 @@ fn set_up_cases(rt: &(impl Print + AllocGlobal), cipher: Cipher) -> io::Result<(
     )
 }
 
-fn cipher_cases(rt: &(impl Print + AllocGlobal), cipher: Cipher) -> io::Result<()> {
-    let n = cipher.area_words();
+fn cipher_cases(rt: &impl Print, sizes: Sizes) -> io::Result<()> {
+    let n = sizes.area;
     let (few, many) = (n.saturating_sub(1), n + 1);
     refuses(
         rt,
-        cipher.code(),
+        sizes.code,
         &[
             (Call::Cipher(OVER, 5), few, Refusal::AreaLength),
             (Call::Cipher(OVER, 0), many, Refusal::AreaLength),
@@ -378,15 +358,15 @@ fn cipher_cases(rt: &(impl Print + AllocGlobal), cipher: Cipher) -> io::Result<(
             (Call::Cipher(67_108_864, 1), n, Refusal::PastLimit),
         ],
     )?;
-    nothing_to_do(rt, cipher, Call::Cipher(67_108_864, 0))
+    nothing_to_do(rt, sizes, Call::Cipher(67_108_864, 0))
 }
 
-fn move_cases(rt: &(impl Print + AllocGlobal), cipher: Cipher) -> io::Result<()> {
-    let n = cipher.area_words();
+fn move_cases(rt: &impl Print, sizes: Sizes) -> io::Result<()> {
+    let n = sizes.area;
     let (few, many) = (n.saturating_sub(1), n + 1);
     refuses(
         rt,
-        cipher.code(),
+        sizes.code,
         &[
             (Call::Move(OVER, 1), few, Refusal::AreaLength),
             (Call::Move(OVER, i64::MIN), many, Refusal::AreaLength),
@@ -402,17 +382,17 @@ fn move_cases(rt: &(impl Print + AllocGlobal), cipher: Cipher) -> io::Result<()>
             (Call::Move(67_108_864, 1), n, Refusal::PastLimit),
         ],
     )?;
-    nothing_to_do(rt, cipher, Call::Move(67_108_864, 0))
+    nothing_to_do(rt, sizes, Call::Move(67_108_864, 0))
 }
 
 // A checkpoint of the cipher has t bytes for its words.
-fn write_cases(rt: &(impl Print + AllocGlobal), cipher: Cipher) -> io::Result<()> {
-    let n = cipher.area_words();
+fn write_cases(rt: &impl Print, sizes: Sizes) -> io::Result<()> {
+    let n = sizes.area;
     let (few, many) = (n.saturating_sub(1), n + 1);
-    let t = 4 * n;
+    let t = sizes.tables;
     refuses(
         rt,
-        cipher.code(),
+        sizes.code,
         &[
             (Call::Write(OVER, 10), few, Refusal::AreaLength),
             (Call::Write(OVER, t + 5), many, Refusal::AreaLength),
@@ -425,13 +405,13 @@ fn write_cases(rt: &(impl Print + AllocGlobal), cipher: Cipher) -> io::Result<()
     )
 }
 
-fn recover_cases(rt: &(impl Print + AllocGlobal), cipher: Cipher) -> io::Result<()> {
-    let (m, n) = (cipher.key_bytes(), cipher.area_words());
+fn recover_cases(rt: &impl Print, sizes: Sizes) -> io::Result<()> {
+    let (m, n) = (sizes.key, sizes.area);
     let (short, long) = (m.saturating_sub(1), m + 1);
     let (few, many) = (n.saturating_sub(1), n + 1);
     refuses(
         rt,
-        cipher.code(),
+        sizes.code,
         &[
             (Call::Recover(OVER, short, short), few, Refusal::AreaLength),
             (Call::Recover(OVER, m, m), many, Refusal::AreaLength),
@@ -448,13 +428,13 @@ fn recover_cases(rt: &(impl Print + AllocGlobal), cipher: Cipher) -> io::Result<
 }
 
 // A checkpoint of the cipher has t bytes for its words.
-fn load_cases(rt: &(impl Print + AllocGlobal), cipher: Cipher) -> io::Result<()> {
-    let n = cipher.area_words();
+fn load_cases(rt: &impl Print, sizes: Sizes) -> io::Result<()> {
+    let n = sizes.area;
     let (few, many) = (n.saturating_sub(1), n + 1);
-    let t = 4 * n;
+    let t = sizes.tables;
     refuses(
         rt,
-        cipher.code(),
+        sizes.code,
         &[
             (Call::Load(b"\x00", 0), few, Refusal::EndsEarly),
             (Call::Load(b"", 1), few, Refusal::AreaLength),
@@ -478,12 +458,12 @@ fn load_cases(rt: &(impl Print + AllocGlobal), cipher: Cipher) -> io::Result<()>
 }
 
 // A checkpoint of the cipher has t bytes for its words.
-fn load_position_cases(rt: &(impl Print + AllocGlobal), cipher: Cipher) -> io::Result<()> {
-    let n = cipher.area_words();
-    let t = 4 * n;
+fn load_position_cases(rt: &impl Print, sizes: Sizes) -> io::Result<()> {
+    let n = sizes.area;
+    let t = sizes.tables;
     refuses(
         rt,
-        cipher.code(),
+        sizes.code,
         &[
             (
                 Call::Load(b"\x81\x80\x80\x80\x00", t + 6),
@@ -507,18 +487,18 @@ fn load_position_cases(rt: &(impl Print + AllocGlobal), cipher: Cipher) -> io::R
 }
 
 // The cipher's own refusals.
-pub fn of_cipher(rt: &(impl Print + AllocGlobal), cipher: Cipher) -> io::Result<()> {
-    set_up_cases(rt, cipher)?;
-    cipher_cases(rt, cipher)?;
-    move_cases(rt, cipher)?;
-    write_cases(rt, cipher)?;
-    recover_cases(rt, cipher)?;
-    load_cases(rt, cipher)?;
-    load_position_cases(rt, cipher)?;
-    let n = cipher.area_words();
+pub fn of_cipher(rt: &impl Print, sizes: Sizes) -> io::Result<()> {
+    set_up_cases(rt, sizes)?;
+    cipher_cases(rt, sizes)?;
+    move_cases(rt, sizes)?;
+    write_cases(rt, sizes)?;
+    recover_cases(rt, sizes)?;
+    load_cases(rt, sizes)?;
+    load_position_cases(rt, sizes)?;
+    let n = sizes.area;
     refuses(
         rt,
-        cipher.code(),
+        sizes.code,
         &[
             (Call::Spent(OVER), n, Refusal::BadPosition),
             (Call::Spent(u64::MAX), n, Refusal::BadPosition),

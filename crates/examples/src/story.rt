@@ -1,27 +1,22 @@
 // What a box does with one cipher: set up, cipher, write and load checkpoints, recover, move, up to the stream limit and back.
 use crate::compare::{
-    ANY, MARK, STRIDE, accepted, are_words, bytes, change, fill, head_on, is_filled, words,
+    ANY, MARK, STRIDE, accepted, are_words, change, fill, head_on, is_filled, items,
 };
 use crate::line::report;
 use crate::refusals::{refuses_load, refuses_recover, refuses_write};
-use cipher::Cipher;
+use crate::sizes::Sizes;
+use arrayvec::ArrayVec;
 use engine::Head;
 use engine::answers::{Keys, Next};
 use refusal::Refusal;
 use std::io;
 
 // Whether set up by a head is accepted with the story's key and IV, in which no two bytes are alike, over other words.
-pub fn sets_up(
-    rt: &impl AllocGlobal,
-    head: Head,
-    cipher: Cipher,
-    area: &mut [u32],
-    first: u32,
-) -> io::Result<bool> {
-    let key = bytes(rt, cipher.key_bytes(), 1, 1)?;
-    let iv = bytes(rt, cipher.iv_bytes(), 33, 1)?;
+pub fn sets_up(head: Head, sizes: Sizes, area: &mut [u32], first: u32) -> io::Result<bool> {
+    let key: ArrayVec<u8, 32> = items(sizes.key, 1, 1)?;
+    let iv: ArrayVec<u8, 32> = items(sizes.iv, 33, 1)?;
     fill(area, first, STRIDE);
-    let code = cipher.code();
+    let code = sizes.code;
     Ok(accepted(head.set_up(code, &key, &iv, area), Head::at(code, 0, 0, 0)))
 }
 
@@ -71,9 +66,8 @@ fn eight_are(words: &[u32; 8], bytes: usize, first: u32) -> bool {
 }
 
 // Whether load gave the story's key and IV.
-fn are_found(cipher: Cipher, keys: &Keys) -> bool {
-    eight_are(&keys.key, cipher.key_bytes(), 0x04030201)
-        && eight_are(&keys.iv, cipher.iv_bytes(), 0x24232221)
+fn are_found(sizes: Sizes, keys: &Keys) -> bool {
+    eight_are(&keys.key, sizes.key, 0x04030201) && eight_are(&keys.iv, sizes.iv, 0x24232221)
 }
 
 // A place where a checkpoint is written: the position from which the box moves there, the distance, the position, and its bytes in the checkpoint.
@@ -125,13 +119,13 @@ const GROUPS: [Stop<'static>; 6] = [
     },
 ];
 
-// A cipher, the box's area, and another of the same length.
+// The numbers of a cipher, its code, the box's area, and another of the same length.
 #[derive(Drop)]
 struct Story {
-    cipher: Cipher,
+    sizes: Sizes,
     code: u32,
-    area: Vec<u32>,
-    other: Vec<u32>,
+    area: ArrayVec<u32, 2048>,
+    other: ArrayVec<u32, 2048>,
 }
 
 impl Story {
@@ -150,24 +144,19 @@ impl Story {
     }
 
     // Two areas that hold different words are set up, one by a fresh head.
-    fn begins(&mut self, rt: &(impl Print + AllocGlobal)) -> io::Result<()> {
+    fn begins(&mut self, rt: &impl Print) -> io::Result<()> {
         let used = Head::at(3, 67_108_865, ANY, MARK);
-        let a = sets_up(rt, Head::fresh(), self.cipher, &mut self.area, 7)?;
-        let b = sets_up(rt, used, self.cipher, &mut self.other, 9)?;
+        let a = sets_up(Head::fresh(), self.sizes, &mut self.area, 7)?;
+        let b = sets_up(used, self.sizes, &mut self.other, 9)?;
         let ok = a && b && !is_filled(&self.area, 7, STRIDE) && self.is_even();
         self.report(rt, 0, "set up", ok)
     }
 
     // Moves back to 0, to the tables that set up gives.
-    fn goes_back(
-        &mut self,
-        rt: &(impl Print + AllocGlobal),
-        from: u64,
-        distance: i64,
-    ) -> io::Result<()> {
+    fn goes_back(&mut self, rt: &impl Print, from: u64, distance: i64) -> io::Result<()> {
         let used = Head::at(self.code, from, ANY, MARK);
         let a = moves(self.code, from, distance, 0, &mut self.area);
-        let b = sets_up(rt, used, self.cipher, &mut self.other, 9)?;
+        let b = sets_up(used, self.sizes, &mut self.other, 9)?;
         self.report(rt, from, "move back to 0", a && b && self.is_even())
     }
 
@@ -203,12 +192,12 @@ impl Story {
     // Writes a checkpoint where so many bytes are lent, and gives it; later bytes stay.
     fn writes(
         &self,
-        rt: &(impl Print + AllocGlobal),
+        rt: &impl Print,
         at: u64,
         position: &[u8],
         room: usize,
-    ) -> io::Result<Vec<u8>> {
-        let mut lent = bytes(rt, room, 165, 0)?;
+    ) -> io::Result<ArrayVec<u8, 8200>> {
+        let mut lent: ArrayVec<u8, 8200> = items(room, 165, 0)?;
         let head = self.head(at);
         let done = head.write(&self.area, &mut lent);
         let n = done.answer.unwrap_or(0);
@@ -229,7 +218,7 @@ impl Story {
         fill(&mut self.other, 9, STRIDE);
         let next = Head::at(3, 67_108_865, ANY, MARK).load(&mut self.other, string);
         let found = match next.answer {
-            Ok(keys) => are_found(self.cipher, &keys),
+            Ok(keys) => are_found(self.sizes, &keys),
             Err(_) => false,
         };
         found && self.is_even() && next.head == head_on(self.code, at, at, &self.area)
@@ -238,11 +227,11 @@ impl Story {
     // Writes a checkpoint where so many bytes are lent, loads it into the other area, and gives it.
     fn writes_and_loads(
         &mut self,
-        rt: &(impl Print + AllocGlobal),
+        rt: &impl Print,
         at: u64,
         position: &[u8],
         room: usize,
-    ) -> io::Result<Vec<u8>> {
+    ) -> io::Result<ArrayVec<u8, 8200>> {
         let string = self.writes(rt, at, position, room)?;
         let ok = self.loads(at, &string);
         self.report(rt, at, "load", ok)?;
@@ -250,23 +239,17 @@ impl Story {
     }
 
     // A checkpoint written where just as many bytes are lent as it has, and not where one fewer is, and loaded.
-    fn checkpoint(
-        &mut self,
-        rt: &(impl Print + AllocGlobal),
-        at: u64,
-        position: &[u8],
-    ) -> io::Result<()> {
-        let tables = 4 * self.cipher.area_words();
-        let room = tables + 1 + position.len().min(4);
+    fn checkpoint(&mut self, rt: &impl Print, at: u64, position: &[u8]) -> io::Result<()> {
+        let room = self.sizes.tables + 1 + position.len().min(4);
         let head = self.head(at);
-        let ok = refuses_write(rt, head, &self.area, room - 1, Refusal::LittleRoom)?;
+        let ok = refuses_write(head, &self.area, room - 1, Refusal::LittleRoom)?;
         self.report(rt, at, "write 8 one byte too few", ok)?;
         self.writes_and_loads(rt, at, position, room)?;
         Ok(())
     }
 
     // Moves to another position, and writes and loads the checkpoint there.
-    fn checkpoint_on(&mut self, rt: &(impl Print + AllocGlobal), stop: Stop<'_>) -> io::Result<()> {
+    fn checkpoint_on(&mut self, rt: &impl Print, stop: Stop<'_>) -> io::Result<()> {
         let ok = moves(self.code, stop.from, stop.distance, stop.to, &mut self.area);
         self.report(rt, stop.to, "move", ok)?;
         self.checkpoint(rt, stop.to, stop.position)
@@ -289,7 +272,7 @@ impl Story {
 
     // The checkpoint at 8195, which lies inside a word, past a turn of both tables of either cipher: loaded with a byte of its tables changed, with its
     // position changed into that of another word, and into another position of the same word, of which the lowest group is given.
-    fn checkpoint_in_word(&mut self, rt: &(impl Print + AllocGlobal)) -> io::Result<()> {
+    fn checkpoint_in_word(&mut self, rt: &impl Print) -> io::Result<()> {
         let mut string = self.writes_and_loads(rt, 8195, b"\x83\x40", 8200)?;
         let last = string.len().saturating_sub(1);
         for (case, at, byte) in [
@@ -309,8 +292,9 @@ impl Story {
     }
 
     // From 8195 on to 8972: enciphered with the tables, and deciphered with the tables that were loaded.
-    fn goes_on(&mut self, rt: &(impl Print + AllocGlobal)) -> io::Result<()> {
-        let mut text = bytes(rt, 777, 11, 7)?;
+    fn goes_on(&mut self, rt: &impl Print) -> io::Result<()> {
+        let mut text = [0u8; 777];
+        fill(&mut text, 11, 7);
         let a = ciphers(self.code, 8195, 8972, &mut self.area, &mut text);
         let changed = !is_filled(&text, 11, 7);
         let b = ciphers(self.code, 8195, 8972, &mut self.other, &mut text);
@@ -319,12 +303,12 @@ impl Story {
     }
 
     // Recovers nothing at a position of another word, though the head's word is the one that the area has there; and then the key and the IV.
-    fn recovers(&self, rt: &(impl Print + AllocGlobal), at: u64, later: u64) -> io::Result<()> {
-        let (m, n) = (self.cipher.key_bytes(), self.cipher.iv_bytes());
-        let none = refuses_recover(rt, self.head(later), &self.area, m, n, Refusal::NoKey)?;
+    fn recovers(&self, rt: &impl Print, at: u64, later: u64) -> io::Result<()> {
+        let (m, n) = (self.sizes.key, self.sizes.iv);
+        let none = refuses_recover(self.head(later), &self.area, m, n, Refusal::NoKey)?;
         self.report(rt, later, "recover 12 in another word", none)?;
-        let mut key = bytes(rt, m, 0, 0)?;
-        let mut iv = bytes(rt, n, 0, 0)?;
+        let mut key: ArrayVec<u8, 32> = items(m, 0, 0)?;
+        let mut iv: ArrayVec<u8, 32> = items(n, 0, 0)?;
         let head = self.head(at);
         let next = head.recover(&self.area, &mut key, &mut iv);
         let found = is_filled(&key, 1, 1) && is_filled(&iv, 33, 1);
@@ -343,7 +327,7 @@ impl Story {
     }
 
     // To 3, then past each position where the groups grow in number, and each time back to 0.
-    fn early(&mut self, rt: &(impl Print + AllocGlobal)) -> io::Result<()> {
+    fn early(&mut self, rt: &impl Print) -> io::Result<()> {
         let mut three = [0u8; 3];
         self.begins(rt)?;
         self.comes_to(rt, 3, 3, &mut three)?;
@@ -355,11 +339,7 @@ impl Story {
     }
 
     // To 8195, from a checkpoint on to 8972, and back to 0.
-    fn there_and_back(
-        &mut self,
-        rt: &(impl Print + AllocGlobal),
-        text: &mut [u8],
-    ) -> io::Result<()> {
+    fn there_and_back(&mut self, rt: &impl Print, text: &mut [u8]) -> io::Result<()> {
         self.comes_to(rt, 8195, 8195, text)?;
         self.checkpoint_in_word(rt)?;
         self.goes_on(rt)?;
@@ -370,7 +350,7 @@ impl Story {
     }
 
     // From 8195 to the stream limit, and all the way back.
-    fn limit(&mut self, rt: &(impl Print + AllocGlobal)) -> io::Result<()> {
+    fn limit(&mut self, rt: &impl Print) -> io::Result<()> {
         let stop = Stop {
             from: 8195,
             distance: 67_100_665,
@@ -385,14 +365,14 @@ impl Story {
 }
 
 // The story of a cipher.
-pub fn of_cipher(rt: &(impl Print + AllocGlobal), cipher: Cipher) -> io::Result<()> {
+pub fn of_cipher(rt: &impl Print, sizes: Sizes) -> io::Result<()> {
     let mut story = Story {
-        cipher,
-        code: cipher.code(),
-        area: words(rt, cipher.area_words(), 0, 0)?,
-        other: words(rt, cipher.area_words(), 0, 0)?,
+        sizes,
+        code: sizes.code,
+        area: items(sizes.area, 0, 0)?,
+        other: items(sizes.area, 0, 0)?,
     };
-    let mut text = bytes(rt, 8195, 0, 0)?;
+    let mut text = [0u8; 8195];
     story.early(rt)?;
     story.there_and_back(rt, &mut text)?;
     story.comes_again(rt, 8195, 8195, &mut text)?;

@@ -1,9 +1,10 @@
 // The word of the head: what it is after each call, when a false one gets 13, and what 13 does not notice.
-use crate::compare::{ANY, MARK, STRIDE, bytes, fill, flipped, is_filled, words};
+use crate::compare::{ANY, MARK, STRIDE, fill, flipped, is_filled, items};
 use crate::line::{report, report_in};
 use crate::refusals::{Call, Case, refuses_cipher, refuses_move, refuses_recover, refuses_write};
+use crate::sizes::Sizes;
 use crate::story::sets_up;
-use cipher::Cipher;
+use arrayvec::ArrayVec;
 use engine::Head;
 use engine::answers::{Keys, Next};
 use refusal::Refusal;
@@ -19,13 +20,8 @@ const HIGH: u32 = 0x80000000;
 
 // A code that is neither cipher's is refused by the four calls that take a head and an area, whatever the word, also where the low bits of the code are
 // a cipher's.
-pub fn unknown_codes(rt: &(impl Print + AllocGlobal)) -> io::Result<()> {
-    for (code, cipher) in [
-        (0, Cipher::Hc128),
-        (257, Cipher::Hc128),
-        (16_777_218, Cipher::Hc256),
-    ] {
-        let (m, n) = (cipher.key_bytes(), cipher.area_words());
+pub fn unknown_codes(rt: &impl Print) -> io::Result<()> {
+    for (code, m, n) in [(0, 16, 1024), (257, 16, 1024), (16_777_218, 32, 2048)] {
         for call in [
             Call::Cipher(77, 5),
             Call::Move(77, 1),
@@ -46,11 +42,11 @@ pub fn unknown_codes(rt: &(impl Print + AllocGlobal)) -> io::Result<()> {
 
 // The place of 13 in the calls of a cipher, whose area has n words, and a checkpoint t bytes for them: a false word comes after 4 and 5, and in cipher
 // before 6, in move before 7 and 6, in write before 8, and in recover before 2, 3 and 12; also at 0, at the limit, and where there is nothing to do.
-pub fn places(rt: &(impl Print + AllocGlobal), cipher: Cipher) -> io::Result<()> {
-    let (m, n) = (cipher.key_bytes(), cipher.area_words());
+pub fn places(rt: &impl Print, sizes: Sizes) -> io::Result<()> {
+    let (m, n) = (sizes.key, sizes.area);
     let (short, long) = (m.saturating_sub(1), m + 1);
     let (few, many) = (n.saturating_sub(1), n + 1);
-    let t = 4 * n;
+    let t = sizes.tables;
     for (call, bits, area, refusal) in [
         (Call::Cipher(77, 5), LOW, few, Refusal::AreaLength),
         (Call::Cipher(67_108_865, 5), LOW, n, Refusal::BadPosition),
@@ -94,7 +90,7 @@ pub fn places(rt: &(impl Print + AllocGlobal), cipher: Cipher) -> io::Result<()>
         (Call::Recover(67_108_864, m, m), LOW, n, Refusal::FalseWord),
     ] {
         let case = Case {
-            code: cipher.code(),
+            code: sizes.code,
             call,
             bits,
             area,
@@ -203,38 +199,25 @@ fn turn_words(rt: &impl Print, mut head: Head, area: &mut [u32]) -> io::Result<(
 // ---- the word at 11
 
 // What load by one head gives of the checkpoint that another head writes, which is empty where write is refused.
-fn written_and_loaded(
-    rt: &impl AllocGlobal,
-    over: Head,
-    head: Head,
-    area: &[u32],
-    other: &mut [u32],
-) -> io::Result<Next<Keys>> {
-    let mut lent = bytes(rt, 8197, 0, 0)?;
+fn written_and_loaded(over: Head, head: Head, area: &[u32], other: &mut [u32]) -> Next<Keys> {
+    let mut lent = [0u8; 8197];
     let n = head.write(area, &mut lent).answer.unwrap_or(0);
-    lent.truncate(n);
-    Ok(over.load(other, &lent))
+    over.load(other, lent.get(..n).unwrap_or(&[]))
 }
 
 // Whether load by one head of the checkpoint that another head writes gives that other head and its tables.
-fn loads_written(
-    rt: &impl AllocGlobal,
-    over: Head,
-    head: Head,
-    area: &[u32],
-    other: &mut [u32],
-) -> io::Result<bool> {
+fn loads_written(over: Head, head: Head, area: &[u32], other: &mut [u32]) -> bool {
     fill(other, 9, STRIDE);
-    let next = written_and_loaded(rt, over, head, area, other)?;
-    Ok(next.answer.is_ok() && next.head == head && *other == *area)
+    let next = written_and_loaded(over, head, area, other);
+    next.answer.is_ok() && next.head == head && *other == *area
 }
 
 // At 11 the word is the same by every way there: the head and its area came there by 11 bytes at once. Another area comes there by two or three bytes
 // a time and a last one, and by a move, which leaves the mark at 0; it is moved by a turn of both tables of either cipher, and back; and calls with
 // nothing to do leave the word as it is.
 fn same_word(
-    rt: &(impl Print + AllocGlobal),
-    cipher: Cipher,
+    rt: &impl Print,
+    sizes: Sizes,
     head: Head,
     area: &[u32],
     other: &mut [u32],
@@ -242,13 +225,13 @@ fn same_word(
     let code = head.code;
     let start = Head::at(code, 0, 0, 0);
     let mut one = [0u8; 1];
-    let a = sets_up(rt, head, cipher, other, 9)?;
+    let a = sets_up(head, sizes, other, 9)?;
     let five = five_more(start, other);
     let ten = five_more(five, other);
     let ok = a && ciphered(ten, other, &mut one) == head;
     report(rt, code, 11, "word after two or three bytes a time", ok)?;
 
-    let a = sets_up(rt, head, cipher, other, 9)?;
+    let a = sets_up(head, sizes, other, 9)?;
     let ok = a && moved(start, other, 11) == Head::at(code, 11, head.word, 0);
     report(rt, code, 11, "word after a move", ok)?;
 
@@ -262,7 +245,7 @@ fn same_word(
     let ok = moved(head, other, 0) == head;
     report(rt, code, 11, "word after a move by 0", ok)?;
 
-    let ok = loads_written(rt, Head::fresh(), head, area, other)?;
+    let ok = loads_written(Head::fresh(), head, area, other);
     report(rt, code, 11, "word after a load", ok)
 }
 
@@ -270,22 +253,22 @@ fn same_word(
 
 // The four calls that take a head and an area get 13 and change nothing. A copy of the area was kept.
 fn all_13(
-    rt: &(impl Print + AllocGlobal),
-    cipher: Cipher,
+    rt: &impl Print,
+    sizes: Sizes,
     head: Head,
     scene: &str,
     area: &mut [u32],
     kept: &[u32],
 ) -> io::Result<()> {
     let refusal = Refusal::FalseWord;
-    let (m, n) = (cipher.key_bytes(), cipher.iv_bytes());
-    let ok = refuses_cipher(rt, head, area, 5, Err(refusal))? && *area == *kept;
+    let (m, n) = (sizes.key, sizes.iv);
+    let ok = refuses_cipher(head, area, 5, Err(refusal))? && *area == *kept;
     report_in(rt, head.code, head.position, scene, "cipher 13", ok)?;
     let ok = refuses_move(head, area, 1, Err(refusal)) && *area == *kept;
     report_in(rt, head.code, head.position, scene, "move 13", ok)?;
-    let ok = refuses_write(rt, head, area, 8197, refusal)?;
+    let ok = refuses_write(head, area, 8197, refusal)?;
     report_in(rt, head.code, head.position, scene, "write 13", ok)?;
-    let ok = refuses_recover(rt, head, area, m, n, refusal)?;
+    let ok = refuses_recover(head, area, m, n, refusal)?;
     report_in(rt, head.code, head.position, scene, "recover 13", ok)
 }
 
@@ -297,16 +280,16 @@ fn goes_and_comes(head: Head, area: &mut [u32]) -> bool {
 }
 
 // Whether write accepts a head.
-fn accepts_write(rt: &impl AllocGlobal, head: Head, area: &[u32]) -> io::Result<bool> {
-    let mut lent = bytes(rt, 8197, 0, 0)?;
+fn accepts_write(head: Head, area: &[u32]) -> bool {
+    let mut lent = [0u8; 8197];
     let done = head.write(area, &mut lent);
-    Ok(done.answer.is_ok() && done.head == head)
+    done.answer.is_ok() && done.head == head
 }
 
 // Whether recover accepts a head, and gives the story's key and IV.
-fn recovers(rt: &impl AllocGlobal, cipher: Cipher, head: Head, area: &[u32]) -> io::Result<bool> {
-    let mut key = bytes(rt, cipher.key_bytes(), 0, 0)?;
-    let mut iv = bytes(rt, cipher.iv_bytes(), 0, 0)?;
+fn recovers(sizes: Sizes, head: Head, area: &[u32]) -> io::Result<bool> {
+    let mut key: ArrayVec<u8, 32> = items(sizes.key, 0, 0)?;
+    let mut iv: ArrayVec<u8, 32> = items(sizes.iv, 0, 0)?;
     let next = head.recover(area, &mut key, &mut iv);
     let accepted = next.answer.is_ok() && next.head == head;
     Ok(accepted && is_filled(&key, 1, 1) && is_filled(&iv, 33, 1))
@@ -314,14 +297,14 @@ fn recovers(rt: &impl AllocGlobal, cipher: Cipher, head: Head, area: &[u32]) -> 
 
 // The four calls accept the true word, so that a false one is all that they refused. A copy of the area was kept.
 fn all_accept(
-    rt: &(impl Print + AllocGlobal),
-    cipher: Cipher,
+    rt: &impl Print,
+    sizes: Sizes,
     head: Head,
     area: &mut [u32],
     kept: &[u32],
 ) -> io::Result<()> {
     let a = goes_and_comes(head, area) && *area == *kept;
-    let b = accepts_write(rt, head, area)? && recovers(rt, cipher, head, area)?;
+    let b = accepts_write(head, area) && recovers(sizes, head, area)?;
     report(
         rt,
         head.code,
@@ -333,17 +316,17 @@ fn all_accept(
 
 // Set up, load and spent do not look at the word: they accept a head at 11 whose word is false.
 fn not_looked_at(
-    rt: &(impl Print + AllocGlobal),
-    cipher: Cipher,
+    rt: &impl Print,
+    sizes: Sizes,
     true_head: Head,
     area: &[u32],
     other: &mut [u32],
 ) -> io::Result<()> {
     let code = true_head.code;
     let head = flipped(true_head, LOW);
-    let ok = sets_up(rt, head, cipher, other, 9)?;
+    let ok = sets_up(head, sizes, other, 9)?;
     report_in(rt, code, 11, "false word", "set up", ok)?;
-    let ok = loads_written(rt, head, true_head, area, other)?;
+    let ok = loads_written(head, true_head, area, other);
     report_in(rt, code, 11, "false word", "load", ok)?;
     let answer = Ok(MARK);
     let ok = head.spent() == Next { head, answer };
@@ -354,40 +337,35 @@ fn not_looked_at(
 
 // Write accepts a head and an area that do not belong together, and load then refuses the checkpoint with 12.
 fn unnoticed(
-    rt: &(impl Print + AllocGlobal),
+    rt: &impl Print,
     head: Head,
     scene: &str,
     area: &[u32],
     other: &mut [u32],
 ) -> io::Result<()> {
-    let ok = accepts_write(rt, head, area)?;
+    let ok = accepts_write(head, area);
     report_in(rt, head.code, head.position, scene, "write", ok)?;
-    let next = written_and_loaded(rt, Head::fresh(), head, area, other)?;
+    let next = written_and_loaded(Head::fresh(), head, area, other);
     let ok = next.answer == Err(Refusal::NoKey);
     report_in(rt, head.code, head.position, scene, "load 12", ok)
 }
 
 // The area is copied at 11, the box goes on by two calls, and the head is copied: the four calls get 13. Gives the head at 16.
 fn older_area(
-    rt: &(impl Print + AllocGlobal),
-    cipher: Cipher,
+    rt: &impl Print,
+    sizes: Sizes,
     head: Head,
     area: &mut [u32],
     copy: &mut [u32],
     kept: &[u32],
 ) -> io::Result<Head> {
     let later = five_more(head, area);
-    all_13(rt, cipher, later, "older area", copy, kept)?;
+    all_13(rt, sizes, later, "older area", copy, kept)?;
     Ok(later)
 }
 
 // The head is copied at 77, the box goes on by two calls, and the area is copied: in one turn, from its step 12 on, 13 does not notice that.
-fn later_area(
-    rt: &(impl Print + AllocGlobal),
-    head: Head,
-    area: &mut [u32],
-    other: &mut [u32],
-) -> io::Result<()> {
+fn later_area(rt: &impl Print, head: Head, area: &mut [u32], other: &mut [u32]) -> io::Result<()> {
     let next = moved(head, area, 61);
     let later = five_more(next, area);
     let ok = next.position == 77 && later.word != next.word;
@@ -396,12 +374,7 @@ fn later_area(
 }
 
 // At 0 the word is 0 with every area, and 13 notices nothing.
-fn any_area(
-    rt: &(impl Print + AllocGlobal),
-    code: u32,
-    area: &mut [u32],
-    other: &mut [u32],
-) -> io::Result<()> {
+fn any_area(rt: &impl Print, code: u32, area: &mut [u32], other: &mut [u32]) -> io::Result<()> {
     fill(area, 7, STRIDE);
     unnoticed(rt, Head::at(code, 0, 0, MARK), "any area", area, other)
 }
@@ -410,18 +383,18 @@ fn any_area(
 
 // The word at 0, after two areas were set up by heads with other words and marks, and from there to the limit.
 fn true_words(
-    rt: &(impl Print + AllocGlobal),
-    cipher: Cipher,
+    rt: &impl Print,
+    sizes: Sizes,
     area: &mut [u32],
     other: &mut [u32],
 ) -> io::Result<()> {
-    let code = cipher.code();
-    let a = sets_up(rt, Head::at(code, 77, ANY, MARK), cipher, area, 7)?;
-    let b = sets_up(rt, Head::at(3, 0, ANY, MARK), cipher, other, 9)?;
+    let code = sizes.code;
+    let a = sets_up(Head::at(code, 77, ANY, MARK), sizes, area, 7)?;
+    let b = sets_up(Head::at(3, 0, ANY, MARK), sizes, other, 9)?;
     report(rt, code, 0, "word 0 after set up", a && b)?;
     all_13(
         rt,
-        cipher,
+        sizes,
         Head::at(code, 0, LOW, MARK),
         "word 1",
         area,
@@ -432,10 +405,10 @@ fn true_words(
 }
 
 // An area is set up and comes to 11 by one call. Gives the head.
-fn eleven(rt: &(impl Print + AllocGlobal), cipher: Cipher, area: &mut [u32]) -> io::Result<Head> {
-    let code = cipher.code();
+fn eleven(rt: &impl Print, sizes: Sizes, area: &mut [u32]) -> io::Result<Head> {
+    let code = sizes.code;
     let mut bytes = [0u8; 11];
-    let a = sets_up(rt, Head::fresh(), cipher, area, 7)?;
+    let a = sets_up(Head::fresh(), sizes, area, 7)?;
     let head = ciphered(Head::at(code, 0, 0, 0), area, &mut bytes);
     let ok = a && head.position == 11 && head.word != 0 && head.mark == 11;
     report(rt, code, 11, "word after 11 bytes at once", ok)?;
@@ -444,8 +417,8 @@ fn eleven(rt: &(impl Print + AllocGlobal), cipher: Cipher, area: &mut [u32]) -> 
 
 // At 11 the word 0 is false, and so is the true word with one bit changed. A copy of the area was kept.
 fn false_words(
-    rt: &(impl Print + AllocGlobal),
-    cipher: Cipher,
+    rt: &impl Print,
+    sizes: Sizes,
     head: Head,
     area: &mut [u32],
     kept: &[u32],
@@ -455,23 +428,23 @@ fn false_words(
         (flipped(head, LOW), "lowest bit changed"),
         (flipped(head, HIGH), "highest bit changed"),
     ] {
-        all_13(rt, cipher, false_head, scene, area, kept)?;
+        all_13(rt, sizes, false_head, scene, area, kept)?;
     }
-    all_accept(rt, cipher, head, area, kept)
+    all_accept(rt, sizes, head, area, kept)
 }
 
 // The word of the head through the calls of a cipher, with the box's area, another, and copies of the first at 11.
-pub fn of_cipher(rt: &(impl Print + AllocGlobal), cipher: Cipher) -> io::Result<()> {
-    let mut area = words(rt, cipher.area_words(), 0, 0)?;
-    let mut other = words(rt, cipher.area_words(), 0, 0)?;
-    true_words(rt, cipher, &mut area, &mut other)?;
-    let head = eleven(rt, cipher, &mut area)?;
-    same_word(rt, cipher, head, &area, &mut other)?;
-    not_looked_at(rt, cipher, head, &area, &mut other)?;
+pub fn of_cipher(rt: &impl Print, sizes: Sizes) -> io::Result<()> {
+    let mut area: ArrayVec<u32, 2048> = items(sizes.area, 0, 0)?;
+    let mut other: ArrayVec<u32, 2048> = items(sizes.area, 0, 0)?;
+    true_words(rt, sizes, &mut area, &mut other)?;
+    let head = eleven(rt, sizes, &mut area)?;
+    same_word(rt, sizes, head, &area, &mut other)?;
+    not_looked_at(rt, sizes, head, &area, &mut other)?;
     let kept = area.clone()?;
-    false_words(rt, cipher, head, &mut area, &kept)?;
+    false_words(rt, sizes, head, &mut area, &kept)?;
     let mut copy = kept.clone()?;
-    let later = older_area(rt, cipher, head, &mut area, &mut copy, &kept)?;
+    let later = older_area(rt, sizes, head, &mut area, &mut copy, &kept)?;
     later_area(rt, later, &mut area, &mut copy)?;
-    any_area(rt, cipher.code(), &mut area, &mut copy)
+    any_area(rt, sizes.code, &mut area, &mut copy)
 }

@@ -15,7 +15,7 @@ pub fn closes(rt: &impl Print, from: &State) -> io::Result<State> {
         format_args!("0, {}", Words(to)),
         is_right,
     )?;
-    from.with_account(to)
+    Ok(from.with_account(to))
 }
 
 // A closing that is refused.

@@ -1,7 +1,7 @@
 // Draws: each is to get its number and to hand back its share account. Where it is accepted, head, area and bytes are to be those after the engine's
 // cipher call; where it is refused, everything is to stay.
 use crate::lines::{Words, line};
-use crate::state::{Left, State};
+use crate::state::{Left, State, first_mut, lent};
 use engine::answers::Next;
 use refusal::Refusal;
 use sharing::{ShareAccount, Shared};
@@ -9,13 +9,20 @@ use std::io;
 
 // What a draw of n bytes leaves.
 fn drawn(from: &State, line: u64, n: usize) -> io::Result<Left> {
-    let mut state = from.with_account(from.account)?;
-    let mut bytes = from.lent(n)?;
+    let mut state = *from;
+    let mut bytes = lent();
+    let area = first_mut(&mut state.words, from.size)?;
     let Shared {
         head,
         account,
         answer,
-    } = sharing::draw(from.head, from.account, &mut state.area, line, &mut bytes);
+    } = sharing::draw(
+        from.head,
+        from.account,
+        area,
+        line,
+        first_mut(&mut bytes, n)?,
+    );
     state.head = head;
     state.account = account;
     Ok(Left {
@@ -57,7 +64,7 @@ pub fn no_draw(
     n: usize,
     refusal: Refusal,
 ) -> io::Result<()> {
-    let is_right = drawn(from, number, n)? == from.kept(n, refusal)?;
+    let is_right = drawn(from, number, n)? == from.kept(refusal);
     let call = format_args!("line {number} draws {n}");
     line(rt, from, call, u64::from(refusal), is_right)
 }

@@ -26,7 +26,7 @@ impl Display for Words {
 impl Display for State {
     fn fmt<W: fmt::Write>(&self, f: &mut fmt::Formatter<W>) -> fmt::Result {
         let Head { code, position, .. } = self.head;
-        write!(f, "code {code} area {} at {position} ", self.area.len())?;
+        write!(f, "code {code} area {} at {position} ", self.size)?;
         if self.off != 0 {
             write!(f, "word off by {} ", self.off)?;
         }

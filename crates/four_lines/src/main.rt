@@ -2,7 +2,6 @@
 // account a call starts, what it is to get, and where it is accepted what it is to leave.
 #![tactic(auto)]
 
-use cipher::Cipher;
 use closings::{closes, no_closing};
 use draws::{draws, no_draw};
 use openings::{no_opening, opens};
@@ -10,7 +9,7 @@ use refusal::Refusal::{
     AreaLength, BadCode, BadPosition, EndsEarly, FalseWord, NoLine, PastLimit, PastShares,
     SeedZero, VolumeEnds, WrongSharing,
 };
-use state::{State, account, open};
+use state::{SIZES, Sizes, State, account, open};
 use std::io;
 use while_open::Outcome;
 
@@ -76,31 +75,36 @@ fn later_openings(
 
 // The refusals of an opening at 1, each by itself and before the one that comes next, and the first before all others. The word that the area has for
 // 67,108,865 is that of 1.
-fn refused_openings(rt: &impl Print, from: &State, cipher: Cipher) -> io::Result<()> {
-    let code = cipher.code();
-    let n = cipher.area_words();
-    let opened = from.with_account(open(NONE, 67_108_863))?;
+fn refused_openings(rt: &impl Print, from: &State, sizes: Sizes) -> io::Result<()> {
+    let Sizes {
+        code,
+        few,
+        area: n,
+        many,
+        ..
+    } = sizes;
+    let opened = from.with_account(open(NONE, 67_108_863));
     for (code, size, position, off, shares) in [
         (code, n, 1, 0, NONE),
         (3, n, 1, 0, NONE),
-        (3, n - 1, 67_108_865, 1, [HALF, HALF, 0, 0]),
+        (3, few, 67_108_865, 1, [HALF, HALF, 0, 0]),
     ] {
-        let from = opened.with_head(code, size, position, off)?;
+        let from = opened.with_head(code, size, position, off);
         no_opening(rt, &from, shares, WrongSharing)?;
     }
     for (code, size, position, off, shares, refusal) in [
         (3, n, 1, 0, NONE, BadCode),
-        (3, n - 1, 1, 0, NONE, BadCode),
-        (code, n - 1, 1, 0, NONE, AreaLength),
-        (code, n + 1, 1, 0, NONE, AreaLength),
-        (code, n - 1, 67_108_865, 0, NONE, AreaLength),
+        (3, few, 1, 0, NONE, BadCode),
+        (code, few, 1, 0, NONE, AreaLength),
+        (code, many, 1, 0, NONE, AreaLength),
+        (code, few, 67_108_865, 0, NONE, AreaLength),
         (code, n, 67_108_865, 0, NONE, BadPosition),
         (code, n, 67_108_865, 1, NONE, BadPosition),
         (code, n, 1, 1, NONE, FalseWord),
         (code, n, 1, 1, [67_108_864, 0, 0, 0], FalseWord),
         (code, n, 1, 0, [67_108_864, 0, 0, 0], PastShares),
     ] {
-        let from = from.with_head(code, size, position, off)?;
+        let from = from.with_head(code, size, position, off);
         no_opening(rt, &from, shares, refusal)?;
     }
     Ok(())
@@ -131,7 +135,7 @@ fn drawing(rt: &impl Print, from: &State) -> io::Result<()> {
 // From 0 with an account that gives less than is left of the stream: one line draws its share and the whole common part, the others draw all of their
 // shares, and then each line gets 20 for one byte and 0 for none.
 fn common_part(rt: &impl Print, start: &State) -> io::Result<()> {
-    let from = start.with_account(open([1, 2, 3, 4], 5))?;
+    let from = start.with_account(open([1, 2, 3, 4], 5));
     no_draw(rt, &from, 3, 10, PastShares)?;
     let a = draws(rt, &from, 3, 9, open([1, 2, 3, 0], 0), 9, 9)?;
     no_draw(rt, &a, 0, 2, PastShares)?;
@@ -172,36 +176,41 @@ fn to_limit(rt: &impl Print, from: &State) -> io::Result<()> {
 }
 
 // The refusals of a draw up to 6, as those of an opening, each also before 19 or 20. `near` is 100 bytes before the limit.
-fn refused_draws(rt: &impl Print, closed: &State, near: &State, cipher: Cipher) -> io::Result<()> {
-    let code = cipher.code();
-    let n = cipher.area_words();
-    let from = closed.with_account(open([5, 0, 0, 0], 3))?;
-    let more = near.with_account(open([101, 0, 0, 0], 0))?;
-    let less = near.with_account(open([5, 0, 0, 0], 3))?;
+fn refused_draws(rt: &impl Print, closed: &State, near: &State, sizes: Sizes) -> io::Result<()> {
+    let Sizes {
+        code,
+        few,
+        area: n,
+        many,
+        ..
+    } = sizes;
+    let from = closed.with_account(open([5, 0, 0, 0], 3));
+    let more = near.with_account(open([101, 0, 0, 0], 0));
+    let less = near.with_account(open([5, 0, 0, 0], 3));
     for (code, size, position, off, line, bytes) in [
         (code, n, 1, 0, 0, 0),
         (3, n, 1, 0, 0, 0),
-        (3, n - 1, 67_108_865, 1, 4, 128),
+        (3, few, 67_108_865, 1, 4, 128),
     ] {
-        let from = closed.with_head(code, size, position, off)?;
+        let from = closed.with_head(code, size, position, off);
         no_draw(rt, &from, line, bytes, WrongSharing)?;
     }
     for (code, size, position, off, refusal) in [
         (3, n, 1, 0, BadCode),
-        (3, n - 1, 1, 0, BadCode),
-        (code, n - 1, 1, 0, AreaLength),
-        (code, n + 1, 1, 0, AreaLength),
-        (code, n - 1, 67_108_865, 0, AreaLength),
+        (3, few, 1, 0, BadCode),
+        (code, few, 1, 0, AreaLength),
+        (code, many, 1, 0, AreaLength),
+        (code, few, 67_108_865, 0, AreaLength),
         (code, n, 67_108_865, 0, BadPosition),
         (code, n, 67_108_865, 1, BadPosition),
         (code, n, 1, 1, FalseWord),
     ] {
-        let from = from.with_head(code, size, position, off)?;
+        let from = from.with_head(code, size, position, off);
         no_draw(rt, &from, 0, 0, refusal)?;
     }
     no_draw(
         rt,
-        &more.with_head(code, n, 67_108_764, 1)?,
+        &more.with_head(code, n, 67_108_764, 1),
         0,
         101,
         FalseWord,
@@ -220,11 +229,11 @@ fn refused_draws(rt: &impl Print, closed: &State, near: &State, cipher: Cipher) 
     )?;
     for (code, size, position, off, line, bytes, refusal) in [
         (3, n, 1, 0, 0, 9, BadCode),
-        (code, n - 1, 1, 0, 4, 9, AreaLength),
+        (code, few, 1, 0, 4, 9, AreaLength),
         (code, n, 67_108_865, 0, 0, 9, BadPosition),
         (code, n, 1, 1, 4, 0, FalseWord),
     ] {
-        let from = from.with_head(code, size, position, off)?;
+        let from = from.with_head(code, size, position, off);
         no_draw(rt, &from, line, bytes, refusal)?;
     }
     Ok(())
@@ -233,7 +242,7 @@ fn refused_draws(rt: &impl Print, closed: &State, near: &State, cipher: Cipher) 
 // Lines over 3, with no bytes, with one, and with more than any line could draw; the largest line; and draws of share and common part, and of one
 // byte more.
 fn refused_lines(rt: &impl Print, closed: &State) -> io::Result<()> {
-    let from = closed.with_account(open([5, 0, 0, 0], 3))?;
+    let from = closed.with_account(open([5, 0, 0, 0], 3));
     for (line, n) in [
         (4, 0),
         (4, 9),
@@ -253,10 +262,10 @@ fn refused_lines(rt: &impl Print, closed: &State) -> io::Result<()> {
 fn made_up(rt: &impl Print, start: &State) -> io::Result<()> {
     let all = account(u64::MAX, [u64::MAX; 4], u64::MAX);
     let left = [u64::MAX, u64::MAX, 18_446_744_073_709_551_610, u64::MAX];
-    let most = start.with_account(all)?;
-    let two = start.with_account(account(2, [1, 2, 3, 4], 5))?;
-    let large = start.with_account(account(4_294_967_296, [1, 2, 3, 4], 5))?;
-    let zero = start.with_account(account(0, [1, 2, 3, 4], 5))?;
+    let most = start.with_account(all);
+    let two = start.with_account(account(2, [1, 2, 3, 4], 5));
+    let large = start.with_account(account(4_294_967_296, [1, 2, 3, 4], 5));
+    let zero = start.with_account(account(0, [1, 2, 3, 4], 5));
     draws(rt, &most, 2, 5, account(u64::MAX, left, u64::MAX), 5, 5)?;
     no_opening(rt, &most, NONE, WrongSharing)?;
     closes(rt, &most)?;
@@ -283,9 +292,9 @@ fn made_up(rt: &impl Print, start: &State) -> io::Result<()> {
 // Accounts that were made up, where the sum of a share and the common part does not fit 64 bits.
 // Each case begins from a state of its own, so the calls stand one after another and not in an array.
 fn large_sums(rt: &impl Print, start: &State) -> io::Result<()> {
-    let a = start.with_account(open([u64::MAX, 0, 0, 0], 1))?;
-    let b = start.with_account(open([0, 1, 0, 0], u64::MAX))?;
-    let c = start.with_account(open([0, 0, 0, HALF], HALF))?;
+    let a = start.with_account(open([u64::MAX, 0, 0, 0], 1));
+    let b = start.with_account(open([0, 1, 0, 0], u64::MAX));
+    let c = start.with_account(open([0, 0, 0, HALF], HALF));
     draws(
         rt,
         &a,
@@ -312,14 +321,14 @@ fn large_sums(rt: &impl Print, start: &State) -> io::Result<()> {
 
 // The other calls from 1 with mark 9 while sharing is open: 21 before another refusal that is due.
 fn calls_while_open(rt: &impl Print, closed: &State, n: usize) -> io::Result<()> {
-    let from = closed.with_account(open(NONE, 67_108_863))?;
+    let from = closed.with_account(open(NONE, 67_108_863));
     let stopped = Outcome::refused(WrongSharing, 1, 9);
     while_open::set_up(rt, &from, 3, stopped)?;
     while_open::load(rt, &from, 0, stopped)?;
     while_open::move_by(rt, &from, 67_108_864, stopped)?;
     while_open::run_test_load(rt, &from, 0, stopped)?;
     while_open::encipher_volume(rt, &from, 4, stopped)?;
-    while_open::cipher(rt, &from.with_head(3, n, 1, 0)?, 10, stopped)
+    while_open::cipher(rt, &from.with_head(3, n, 1, 0), 10, stopped)
 }
 
 // The other calls from 1 with mark 9 while sharing is open by an account that was made up: 21 where nothing else is due. The checkpoint has this many
@@ -330,7 +339,7 @@ fn good_calls_while_open(
     code: u32,
     bytes: usize,
 ) -> io::Result<()> {
-    let from = closed.with_account(account(4_294_967_296, NONE, 0))?;
+    let from = closed.with_account(account(4_294_967_296, NONE, 0));
     let stopped = Outcome::refused(WrongSharing, 1, 9);
     while_open::set_up(rt, &from, code, stopped)?;
     while_open::load(rt, &from, bytes, stopped)?;
@@ -359,16 +368,19 @@ fn calls_while_closed(
     while_open::move_by(rt, from, 67_108_864, Outcome::refused(PastLimit, 1, 9))?;
     while_open::run_test_load(rt, from, 0, Outcome::refused(SeedZero, 1, 9))?;
     while_open::encipher_volume(rt, from, 4, Outcome::refused(VolumeEnds, 1, 9))?;
-    let unknown = from.with_head(3, n, 1, 0)?;
+    let unknown = from.with_head(3, n, 1, 0);
     while_open::cipher(rt, &unknown, 10, Outcome::refused(BadCode, 1, 9))
 }
 
 // The cases of a cipher.
-fn of_cipher(rt: &(impl Print + AllocGlobal), cipher: Cipher) -> io::Result<()> {
-    let code = cipher.code();
-    let n = cipher.area_words();
-    let bytes = 2 + 4 * n; // of the checkpoint at 1
-    let start = State::set_up(rt.alloc(), cipher)?;
+fn of_cipher(rt: &impl Print, sizes: Sizes) -> io::Result<()> {
+    let Sizes {
+        code,
+        area: n,
+        checkpoint: bytes,
+        ..
+    } = sizes;
+    let start = State::set_up(sizes)?;
     let inside = start.moved(9, -8)?;
     let word = start.moved(0, 4)?;
     let near = start.moved(0, 67_108_764)?;
@@ -377,11 +389,11 @@ fn of_cipher(rt: &(impl Print + AllocGlobal), cipher: Cipher) -> io::Result<()> 
     first_openings(rt, &start)?;
     large_shares(rt, &start)?;
     later_openings(rt, &inside, &word, &last, &limit)?;
-    refused_openings(rt, &inside, cipher)?;
+    refused_openings(rt, &inside, sizes)?;
     drawing(rt, &inside)?;
     common_part(rt, &start)?;
     to_limit(rt, &near)?;
-    refused_draws(rt, &inside, &near, cipher)?;
+    refused_draws(rt, &inside, &near, sizes)?;
     refused_lines(rt, &inside)?;
     made_up(rt, &start)?;
     large_sums(rt, &start)?;
@@ -391,6 +403,8 @@ fn of_cipher(rt: &(impl Print + AllocGlobal), cipher: Cipher) -> io::Result<()> 
 }
 
 fn main(rt: HostRuntime) -> io::Result<()> {
-    of_cipher(&rt, Cipher::Hc128)?;
-    of_cipher(&rt, Cipher::Hc256)
+    for sizes in SIZES {
+        of_cipher(&rt, sizes)?;
+    }
+    Ok(())
 }

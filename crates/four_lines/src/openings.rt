@@ -11,7 +11,7 @@ fn is_right(
     shares: [u64; 4],
     account: ShareAccount,
     answer: Result<(), Refusal>,
-) -> bool {
+) -> io::Result<bool> {
     let [a, b, c, d] = shares;
     let head = from.head;
     let expected = Shared {
@@ -19,7 +19,8 @@ fn is_right(
         account,
         answer,
     };
-    sharing::open_sharing(head, from.account, &from.area, a, b, c, d) == expected
+    let given = sharing::open_sharing(head, from.account, from.area()?, a, b, c, d);
+    Ok(given == expected)
 }
 
 // An opening that is accepted, and what it is to leave common. Gives what it is to leave.
@@ -28,8 +29,9 @@ pub fn opens(rt: &impl Print, from: &State, shares: [u64; 4], common: u64) -> io
     let to = open(shares, common);
     let call = format_args!("opening {a} {b} {c} {d}");
     let expected = format_args!("0, {}", Words(to));
-    line(rt, from, call, expected, is_right(from, shares, to, Ok(())))?;
-    from.with_account(to)
+    let is_right = is_right(from, shares, to, Ok(()))?;
+    line(rt, from, call, expected, is_right)?;
+    Ok(from.with_account(to))
 }
 
 // An opening that is refused.
@@ -41,6 +43,6 @@ pub fn no_opening(
 ) -> io::Result<()> {
     let [a, b, c, d] = shares;
     let call = format_args!("opening {a} {b} {c} {d}");
-    let is_right = is_right(from, shares, from.account, Err(refusal));
+    let is_right = is_right(from, shares, from.account, Err(refusal))?;
     line(rt, from, call, u64::from(refusal), is_right)
 }

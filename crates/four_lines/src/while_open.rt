@@ -1,8 +1,7 @@
 // The six calls that are refused while sharing is open: each is to get its number. Where it is accepted, head, area and bytes are to be those after
 // the engine's own call; where it is refused, everything is to stay.
 use crate::lines::line;
-use crate::state::State;
-use cipher::Cipher;
+use crate::state::{State, first};
 use engine::Head;
 use engine::answers::{Keys, Next};
 use refusal::Refusal;
@@ -14,9 +13,9 @@ static KEY: [u8; 32] = [8; 32];
 
 // A key of a code, and an IV: as many bytes as its cipher has, or 32 where it has no cipher.
 fn key_of(code: u32) -> &'static [u8] {
-    match Cipher::try_from(code) {
-        Ok(cipher) => &KEY[..cipher.key_bytes()],
-        Err(_) => &KEY,
+    match code {
+        1 => &KEY[..16],
+        _ => &KEY,
     }
 }
 
@@ -94,7 +93,7 @@ where
     let got = from.after(n, by_sharing)?;
     let to = match expected.answer {
         Ok(()) => from.after(n, by_engine)?,
-        Err(refusal) => from.kept(n, refusal)?,
+        Err(refusal) => from.kept(refusal),
     };
     let Head { position, mark, .. } = got.state.head;
     let is_right = got == to
@@ -120,14 +119,16 @@ pub fn set_up(rt: &impl Print, from: &State, code: u32, expected: Outcome) -> io
 
 // Load of so many bytes of the checkpoint that the head writes.
 pub fn load(rt: &impl Print, from: &State, n: usize, expected: Outcome) -> io::Result<()> {
-    let string = from.checkpoint(n)?;
+    let mut string = [0; 8194];
+    from.head.write(from.area()?, &mut string);
+    let string = first(&string, n)?;
     calls(
         rt,
         from,
         format_args!("load of bytes {n}"),
         0,
-        |head, account, area, _| loaded(sharing::load(head, account, area, &string)),
-        |head, _, area, _| loaded(head.load(area, &string)),
+        |head, account, area, _| loaded(sharing::load(head, account, area, string)),
+        |head, _, area, _| loaded(head.load(area, string)),
         expected,
     )
 }

@@ -1,20 +1,25 @@
 // The commands, each with the words that follow its name.
 use crate::say::{Numbered, Stop};
+use crate::words::Word;
 use crate::{files, log};
+use arrayvec::ArrayVec;
 use cipher::Cipher;
 use engine::Head;
 use refusal::Refusal;
 use std::rt::Runtime;
 use std::{fmt, io};
 
-// More bytes than any checkpoint has, which are read of one.
-const CHECKPOINT_BYTES: u64 = 8198;
+// A table area, which has 2,048 words at most.
+type Area = ArrayVec<u32, 2048>;
 
-// More bytes than any key or IV has, which are read of a file with one.
-const SECRET_BYTES: u64 = 33;
+// What is read of a checkpoint: one byte more than any has.
+type Checkpoint = ArrayVec<u8, 8198>;
+
+// What is read of a file with a key or an IV: one byte more than any has.
+type Key = ArrayVec<u8, 33>;
 
 // The words without an option that may be the last of them, and whether it is.
-fn without_option<'a>(words: &'a [String], option: &str) -> (&'a [String], bool) {
+fn without_option<'a>(words: &'a [Word], option: &str) -> (&'a [Word], bool) {
     match words.split_last() {
         Some((last, rest)) if last.as_str() == option => (rest, true),
         _ => (words, false),
@@ -45,24 +50,26 @@ struct Start<'a> {
     cipher: Cipher,
     position: u64,
     key_path: &'a str,
-    key: Vec<u8>,
+    key: Key,
     iv_path: &'a str,
-    iv: Vec<u8>,
+    iv: Key,
 }
 
 impl<'a> Start<'a> {
     // Reads the key and the IV of a cipher.
     fn read(
-        rt: &(impl Runtime + AllocGlobal),
+        rt: &impl Runtime,
         position: u64,
         cipher: &'a str,
         key_path: &'a str,
         iv_path: &'a str,
     ) -> Result<Start<'a>, Stop<'a>> {
         let cipher = cipher_of(cipher)?;
-        let size = cipher.key_bytes() as u64;
-        let key = files::read(rt, key_path, size, SECRET_BYTES)?;
-        let iv = files::read(rt, iv_path, size, SECRET_BYTES)?;
+        let size = cipher.key_bytes();
+        let mut key = Key::from([0; 33]);
+        files::read(rt, key_path, size, &mut key)?;
+        let mut iv = Key::from([0; 33]);
+        files::read(rt, iv_path, size, &mut iv)?;
         Ok(Start {
             cipher,
             position,
@@ -94,14 +101,14 @@ impl<'a> Start<'a> {
 }
 
 // cipher CIPHER KEYFILE IVFILE [FROM] [--progress]
-pub fn cipher<'a>(rt: &(impl Runtime + AllocGlobal), words: &'a [String]) -> Result<(), Stop<'a>> {
+pub fn cipher<'a>(rt: &impl Runtime, words: &'a [Word]) -> Result<(), Stop<'a>> {
     let (words, progress) = without_option(words, "--progress");
     let start = match words {
         [cipher, key, iv] => Start::read(rt, 0, cipher, key, iv)?,
         [cipher, key, iv, from] => Start::read(rt, position_of(from)?, cipher, key, iv)?,
         _ => return Err(Stop::Usage),
     };
-    let mut area = vec![in rt.alloc(); 0u32; start.cipher.area_words()]?;
+    let mut area: Area = buffers::filled(0, start.cipher.area_words());
     let code = start.cipher.code();
     let next = lab::set_up_at(code, &start.key, &start.iv, &mut area, start.position);
     match next.answer {
@@ -111,23 +118,19 @@ pub fn cipher<'a>(rt: &(impl Runtime + AllocGlobal), words: &'a [String]) -> Res
 }
 
 // As many bytes as a checkpoint at a position has, and none where there is no such checkpoint.
-fn checkpoint_room(
-    rt: &impl AllocGlobal,
-    cipher: Cipher,
-    position: u64,
-) -> Result<Vec<u8>, Stop<'static>> {
+fn checkpoint_room(cipher: Cipher, position: u64) -> ArrayVec<u8, 8197> {
     let length = engine::checkpoint_length(cipher.code(), position).unwrap_or(0);
-    Ok(vec![in rt.alloc(); 0u8; length]?)
+    buffers::filled(0, length)
 }
 
 // write CIPHER KEYFILE IVFILE POSITION NEWCHECKPOINT
-pub fn write<'a>(rt: &(impl Runtime + AllocGlobal), words: &'a [String]) -> Result<(), Stop<'a>> {
+pub fn write<'a>(rt: &impl Runtime, words: &'a [Word]) -> Result<(), Stop<'a>> {
     let [cipher, key, iv, position, path] = words else {
         return Err(Stop::Usage);
     };
     let start = Start::read(rt, position_of(position)?, cipher, key, iv)?;
-    let mut area = vec![in rt.alloc(); 0u32; start.cipher.area_words()]?;
-    let mut lent = checkpoint_room(rt, start.cipher, start.position)?;
+    let mut area: Area = buffers::filled(0, start.cipher.area_words());
+    let mut lent = checkpoint_room(start.cipher, start.position);
     let code = start.cipher.code();
     let next = lab::write_at(
         code,
@@ -150,19 +153,20 @@ pub fn write<'a>(rt: &(impl Runtime + AllocGlobal), words: &'a [String]) -> Resu
 
 // Reads a checkpoint.
 fn read_checkpoint<'a>(
-    rt: &(impl Runtime + AllocGlobal),
+    rt: &impl Runtime,
     path: &'a str,
-) -> Result<Vec<u8>, Stop<'a>> {
-    files::read(rt, path, CHECKPOINT_BYTES, CHECKPOINT_BYTES)
+    string: &mut Checkpoint,
+) -> Result<(), Stop<'a>> {
+    files::read(rt, path, 8198, string)
 }
 
 // An area for the tables of a checkpoint.
-fn area_for(rt: &impl AllocGlobal, string: &[u8]) -> Result<Vec<u32>, Stop<'static>> {
-    Ok(vec![in rt.alloc(); 0u32; lab::cipher_of(string).area_words()]?)
+fn area_for(string: &[u8]) -> Area {
+    buffers::filled(0, lab::cipher_of(string).area_words())
 }
 
 // open CHECKPOINT [--progress]
-pub fn open<'a>(rt: &(impl Runtime + AllocGlobal), words: &'a [String]) -> Result<(), Stop<'a>> {
+pub fn open<'a>(rt: &impl Runtime, words: &'a [Word]) -> Result<(), Stop<'a>> {
     let (words, progress) = without_option(words, "--progress");
     let [path] = words else {
         return Err(Stop::Usage);
@@ -173,8 +177,9 @@ pub fn open<'a>(rt: &(impl Runtime + AllocGlobal), words: &'a [String]) -> Resul
             sentence: "open reads the log from standard input, so CHECKPOINT is a file.",
         });
     }
-    let string = read_checkpoint(rt, path)?;
-    let mut area = area_for(rt, &string)?;
+    let mut string = Checkpoint::from([0; 8198]);
+    read_checkpoint(rt, path, &mut string)?;
+    let mut area = area_for(&string);
     let next = lab::open_checkpoint(&string, &mut area);
     match next.answer {
         Ok(()) => log::run(rt, next.head, &mut area, progress),
@@ -186,14 +191,15 @@ pub fn open<'a>(rt: &(impl Runtime + AllocGlobal), words: &'a [String]) -> Resul
 }
 
 // at CHECKPOINT POSITION NEWCHECKPOINT
-pub fn at<'a>(rt: &(impl Runtime + AllocGlobal), words: &'a [String]) -> Result<(), Stop<'a>> {
+pub fn at<'a>(rt: &impl Runtime, words: &'a [Word]) -> Result<(), Stop<'a>> {
     let [path, position, new_path] = words else {
         return Err(Stop::Usage);
     };
     let position = position_of(position)?;
-    let string = read_checkpoint(rt, path)?;
-    let mut area = area_for(rt, &string)?;
-    let mut lent = checkpoint_room(rt, lab::cipher_of(&string), position)?;
+    let mut string = Checkpoint::from([0; 8198]);
+    read_checkpoint(rt, path, &mut string)?;
+    let mut area = area_for(&string);
+    let mut lent = checkpoint_room(lab::cipher_of(&string), position);
     let next = lab::rewrite_at(&string, &mut area, position, &mut lent);
     match next.answer {
         Ok(length) => {
@@ -211,18 +217,18 @@ pub fn at<'a>(rt: &(impl Runtime + AllocGlobal), words: &'a [String]) -> Result<
 // The key and the IV of a checkpoint, or why the engine refuses it.
 #[derive(Drop)]
 struct Secret {
-    key: Vec<u8>,
-    iv: Vec<u8>,
+    key: ArrayVec<u8, 32>,
+    iv: ArrayVec<u8, 32>,
     answer: Result<(), Refusal>,
 }
 
 impl Secret {
-    fn of(rt: &impl AllocGlobal, string: &[u8], area: &mut [u32]) -> Result<Secret, Stop<'static>> {
+    fn of(string: &[u8], area: &mut [u32]) -> Secret {
         let cipher = lab::cipher_of(string);
-        let mut key = vec![in rt.alloc(); 0u8; cipher.key_bytes()]?;
-        let mut iv = vec![in rt.alloc(); 0u8; cipher.iv_bytes()]?;
+        let mut key = buffers::filled(0, cipher.key_bytes());
+        let mut iv = buffers::filled(0, cipher.iv_bytes());
         let answer = lab::recover_from(string, area, &mut key, &mut iv).answer;
-        Ok(Secret { key, iv, answer })
+        Secret { key, iv, answer }
     }
 }
 
@@ -243,25 +249,26 @@ fn save_both<'a>(
         }
     };
     let key_stored = files::store(rt, key_file, key_path, key);
+    if let Err(stop) = &key_stored {
+        stop.say(rt);
+    }
     let iv_stored = files::store(rt, iv_file, iv_path, iv);
     if key_stored.is_err() || iv_stored.is_err() {
         files::remove(rt, key_path);
         files::remove(rt, iv_path);
     }
-    if let Err(stop) = key_stored {
-        stop.say(rt);
-    }
     iv_stored
 }
 
 // recover CHECKPOINT KEYFILE IVFILE
-pub fn recover<'a>(rt: &(impl Runtime + AllocGlobal), words: &'a [String]) -> Result<(), Stop<'a>> {
+pub fn recover<'a>(rt: &impl Runtime, words: &'a [Word]) -> Result<(), Stop<'a>> {
     let [path, key_path, iv_path] = words else {
         return Err(Stop::Usage);
     };
-    let string = read_checkpoint(rt, path)?;
-    let mut area = area_for(rt, &string)?;
-    let secret = Secret::of(rt, &string, &mut area)?;
+    let mut string = Checkpoint::from([0; 8198]);
+    read_checkpoint(rt, path, &mut string)?;
+    let mut area = area_for(&string);
+    let secret = Secret::of(&string, &mut area);
     match secret.answer {
         Ok(()) => save_both(rt, key_path, &secret.key, iv_path, &secret.iv),
         Err(refusal) => Err(Stop::Refused {
@@ -308,16 +315,14 @@ fn put_load(rt: &impl Print, string: &[u8], area: &mut [u32]) -> io::Result<()> 
 }
 
 // describe CHECKPOINT [--secret]
-pub fn describe<'a>(
-    rt: &(impl Runtime + AllocGlobal),
-    words: &'a [String],
-) -> Result<(), Stop<'a>> {
+pub fn describe<'a>(rt: &impl Runtime, words: &'a [Word]) -> Result<(), Stop<'a>> {
     let (words, secret) = without_option(words, "--secret");
     let [path] = words else {
         return Err(Stop::Usage);
     };
-    let string = read_checkpoint(rt, path)?;
-    let mut area = area_for(rt, &string)?;
+    let mut string = Checkpoint::from([0; 8198]);
+    read_checkpoint(rt, path, &mut string)?;
+    let mut area = area_for(&string);
     println!(rt; "cipher: {}", name_in(&string))?;
     match lab::position_in(&string) {
         Some(position) => println!(rt; "position: {position}")?,
@@ -325,7 +330,7 @@ pub fn describe<'a>(
     }
     put_load(rt, &string, &mut area)?;
     if secret {
-        let secret = Secret::of(rt, &string, &mut area)?;
+        let secret = Secret::of(&string, &mut area);
         if secret.answer.is_ok() {
             println!(rt; "key: {}", Hex(&secret.key))?;
             println!(rt; "iv: {}", Hex(&secret.iv))?;
@@ -337,10 +342,7 @@ pub fn describe<'a>(
 // ---- the command with two checkpoints
 
 // same-run CHECKPOINT CHECKPOINT
-pub fn same_run<'a>(
-    rt: &(impl Runtime + AllocGlobal),
-    words: &'a [String],
-) -> Result<(), Stop<'a>> {
+pub fn same_run<'a>(rt: &impl Runtime, words: &'a [Word]) -> Result<(), Stop<'a>> {
     let [first_path, second_path] = words else {
         return Err(Stop::Usage);
     };
@@ -350,8 +352,10 @@ pub fn same_run<'a>(
             sentence: "standard input can be one of the two checkpoints, and not both.",
         });
     }
-    let first = read_checkpoint(rt, first_path)?;
-    let second = read_checkpoint(rt, second_path)?;
+    let mut first = Checkpoint::from([0; 8198]);
+    read_checkpoint(rt, first_path, &mut first)?;
+    let mut second = Checkpoint::from([0; 8198]);
+    read_checkpoint(rt, second_path, &mut second)?;
     match same_run::same_run(&first, &second) {
         Ok(true) => println!(rt; "same run: yes")?,
         Ok(false) => println!(rt; "same run: no")?,

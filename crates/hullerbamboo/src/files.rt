@@ -1,7 +1,10 @@
 // Files by name, where `-` is standard input or standard output.
+ghost use Rattle.std.specs.Prelude.{◌≤◌, length, IfOk};
+
 use crate::say::Stop;
+use arrayvec::ArrayVec;
 use std::fs::{OpenFile, OpenOptions, Permissions};
-use std::io::{Read, Write};
+use std::io::{ErrorKind, Read, Write};
 use std::os::unix::fs::{OpenOptionsExt, PermissionsExt};
 use std::rt::{Files, Runtime};
 use std::{fs, io};
@@ -18,30 +21,50 @@ pub fn is_standard(path: &str) -> bool {
     path == "-"
 }
 
-// Reads a file, up to `most` bytes; from standard input `size` bytes and no more, since others may follow.
-fn read_bytes(
-    rt: &(impl Runtime + AllocGlobal),
-    path: &str,
-    size: u64,
-    most: u64,
-) -> io::Result<Vec<u8>> {
-    let mut bytes = Vec::new(rt.alloc());
-    if is_standard(path) {
-        rt.reader().take(size).read_to_end(&mut bytes)?;
-    } else {
-        fs::open(rt, path)?.take(most).read_to_end(&mut bytes)?;
+// Reads until the buffer is full or the input ends, and gives how many bytes are at its start then. An interrupted read goes on.
+fn fill(input: &mut impl Read, buffer: &mut [u8]) -> io::Result<usize>
+    ensures { IfOk result (λ n. n ≤ length buffer.new) }
+{
+    let mut n = 0;
+    for _ in 0..u64::MAX {
+        if n == buffer.len() {
+            break;
+        }
+        match input.read(&mut buffer[n..]) {
+            Ok(0) => break,
+            Ok(more) => n += more,
+            Err(error) => {
+                if error.kind() != ErrorKind::Interrupted {
+                    return Err(error);
+                }
+            }
+        }
     }
-    Ok(bytes)
+    Ok(n)
 }
 
-// Reads a file, up to `most` bytes; from standard input `size` bytes and no more.
-pub fn read<'a>(
-    rt: &(impl Runtime + AllocGlobal),
+// Reads a file, up to the buffer's length; from standard input `size` bytes and no more, since others may follow. Gives how many bytes were read.
+fn read_bytes(rt: &impl Runtime, path: &str, size: usize, buffer: &mut [u8]) -> io::Result<usize>
+    ensures { IfOk result (λ n. n ≤ length buffer.new) }
+{
+    if is_standard(path) {
+        let size = size.min(buffer.len());
+        fill(&mut rt.reader(), &mut buffer[..size])
+    } else {
+        fill(&mut fs::open(rt, path)?, buffer)
+    }
+}
+
+// Reads a file into a full buffer, and leaves as many of its bytes as were read; from standard input `size` bytes and no more.
+pub fn read<'a, const N: usize>(
+    rt: &impl Runtime,
     path: &'a str,
-    size: u64,
-    most: u64,
-) -> Result<Vec<u8>, Stop<'a>> {
-    read_bytes(rt, path, size, most).map_err(|error| Stop::System { what: path, error })
+    size: usize,
+    bytes: &mut ArrayVec<u8, N>,
+) -> Result<(), Stop<'a>> {
+    let n = read_bytes(rt, path, size, bytes).map_err(|error| Stop::System { what: path, error })?;
+    bytes.truncate(n);
+    Ok(())
 }
 
 // Makes a file that only its owner may read, and answers where its bytes go. It fails where the name is taken.

@@ -53,7 +53,8 @@ fn measure_input(rt: &impl Files) -> Option<u64> {
 }
 
 // One turn: reads what there is, up to the buffer's length, ciphers it and writes it. Leaves the head with which to go on, or with which the log ended,
-// which has passed the bytes that could not be written too.
+// which has passed the bytes that could not be written too. Compiled apart from the function that has the buffer, the cipher's loop is quicker.
+#[inline(never)]
 fn take_turn(
     rt: &(impl Print + Eprint + Alloc),
     input: &mut impl Read,

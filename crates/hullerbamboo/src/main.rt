@@ -7,12 +7,14 @@ mod log;
 mod say;
 mod words;
 
+use arrayvec::ArrayVec;
 use lab::Command;
 use say::Stop;
 use std::rt::Runtime;
+use words::Word;
 
 // Runs the command that the first word names.
-fn run<'a>(rt: &(impl Runtime + AllocGlobal), words: &'a [String]) -> Result<(), Stop<'a>> {
+fn run<'a>(rt: &impl Runtime, words: &'a [Word]) -> Result<(), Stop<'a>> {
     let Some((command, words)) = words.split_first() else {
         return Err(Stop::Usage);
     };
@@ -30,9 +32,10 @@ fn run<'a>(rt: &(impl Runtime + AllocGlobal), words: &'a [String]) -> Result<(),
 }
 
 // Runs the words of the command line, and says why it stops where it does.
-fn run_line(rt: &(impl Runtime + AllocGlobal)) {
-    match words::read(rt) {
-        Ok(words) => {
+fn run_line(rt: &impl Runtime) {
+    let mut words = ArrayVec::new();
+    match words::read(rt, &mut words) {
+        Ok(()) => {
             if let Err(stop) = run(rt, &words) {
                 stop.say(rt);
             }

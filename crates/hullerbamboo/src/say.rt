@@ -1,7 +1,6 @@
 // What the program says on standard error: its usage, and a sentence for each reason why a command stops. A sentence that cannot be written has nowhere
 // to go.
 use refusal::Refusal;
-use std::alloc::{AllocError, AllocFailed};
 use std::{fmt, io};
 
 // How the program is used.
@@ -73,21 +72,6 @@ impl<'a> From<io::Error> for Stop<'a> {
             what: "standard output",
             error,
         }
-    }
-}
-
-impl<'a> From<AllocError> for Stop<'a> {
-    fn from(error: AllocError) -> Stop<'a> {
-        Stop::System {
-            what: "memory",
-            error: io::Error::from(error),
-        }
-    }
-}
-
-impl<'a, T: Drop> From<AllocFailed<T>> for Stop<'a> {
-    fn from(error: AllocFailed<T>) -> Stop<'a> {
-        Stop::from(AllocError::from(error))
     }
 }
 

@@ -1,5 +1,6 @@
 // The calls. Each is by a bench, and writes a line: where the head was, what was called, the refusal number that it is to get, 0 where it is accepted,
 // and where the head is to be then.
+use arrayvec::ArrayVec;
 use cipher::Cipher;
 use engine::Head;
 use engine::answers::Next;
@@ -106,62 +107,70 @@ pub fn line(
     println!(rt; "{cipher} {before} {call} gets {number} {place} {word}")
 }
 
-// A cipher, a head and its area.
-#[derive(Clone, Drop)]
+// A checkpoint, of at most 8,194 bytes where the position is one group.
+pub type Checkpoint = ArrayVec<u8, 8194>;
+
+// A cipher, a head, and words of which the first are its area.
+#[derive(Clone, Copy)]
 pub struct Bench {
     pub sizes: Sizes,
     pub head: Head,
-    pub area: Vec<u32>,
+    pub words: [u32; 2048],
 }
 
 impl Bench {
     // A fresh head, and words that no set up made.
-    pub fn fresh(rt: &impl AllocGlobal, sizes: Sizes) -> io::Result<Bench> {
-        Ok(Bench {
+    pub fn fresh(sizes: Sizes) -> Bench {
+        Bench {
             sizes,
             head: Head::fresh(),
-            area: vec![in rt.alloc(); 7u32; sizes.area]?,
-        })
+            words: [7; 2048],
+        }
     }
 
-    // Makes a call.
-    fn call(&mut self, rt: &impl AllocGlobal, call: Call<'_>) -> io::Result<Next<()>> {
+    // Makes a call and gives its answer, or none where it has more bytes or words than are kept for it.
+    fn call(&mut self, call: Call<'_>) -> Option<Result<(), Refusal>> {
         let Sizes {
             code,
             key: key_bytes,
             iv: iv_bytes,
             ..
         } = self.sizes;
-        Ok(match call {
+        let area = self.words.get_mut(..self.sizes.area)?;
+        let next = match call {
             Call::SetUp(bytes) => {
-                let key = vec![in rt.alloc(); 5u8; bytes]?;
-                let iv = vec![in rt.alloc(); 6u8; iv_bytes]?;
-                self.head.set_up(code, &key, &iv, &mut self.area)
+                let key = [5u8; 32];
+                let iv = [6u8; 32];
+                self.head
+                    .set_up(code, key.get(..bytes)?, iv.get(..iv_bytes)?, area)
             }
             Call::Cipher(bytes) => {
-                let mut lent = vec![in rt.alloc(); 0u8; bytes]?;
-                self.head.cipher(&mut self.area, &mut lent)
+                let mut lent = [0u8; 10];
+                self.head.cipher(area, lent.get_mut(..bytes)?)
             }
-            Call::Move(distance) => self.head.move_by(&mut self.area, distance),
+            Call::Move(distance) => self.head.move_by(area, distance),
             Call::Recover => {
-                let mut key = vec![in rt.alloc(); 0u8; key_bytes]?;
-                let mut iv = vec![in rt.alloc(); 0u8; iv_bytes]?;
-                self.head.recover(&self.area, &mut key, &mut iv)
+                let mut key = [0u8; 32];
+                let mut iv = [0u8; 32];
+                self.head
+                    .recover(area, key.get_mut(..key_bytes)?, iv.get_mut(..iv_bytes)?)
             }
             Call::Load(string) => {
-                let loaded = self.head.load(&mut self.area, string);
+                let loaded = self.head.load(area, string);
                 Next {
                     head: loaded.head,
                     answer: loaded.answer.and(Ok(())),
                 }
             }
-        })
+        };
+        self.head = next.head;
+        Some(next.answer)
     }
 
     // Makes a call, which is to get this answer and to leave the head at this place.
     pub fn makes(
         &mut self,
-        rt: &(impl Print + AllocGlobal),
+        rt: &impl Print,
         call: Call<'_>,
         answer: Result<(), Refusal>,
         position: u64,
@@ -170,29 +179,25 @@ impl Bench {
         let Sizes { cipher, code, .. } = self.sizes;
         let place = Place { position, mark };
         let before = self.head;
-        let next = self.call(rt, call)?;
-        let ok = next.answer == answer && is_at(next.head, code, place);
-        self.head = next.head;
+        let ok = self.call(call) == Some(answer) && is_at(self.head, code, place);
         line(rt, before, call, answer, cipher, place, ok)
     }
 
     // Writes the checkpoint, with the head at this place, and gives it.
-    pub fn writes(
-        &self,
-        rt: &(impl Print + AllocGlobal),
-        position: u64,
-        mark: u64,
-    ) -> io::Result<Vec<u8>> {
+    pub fn writes(&self, rt: &impl Print, position: u64, mark: u64) -> io::Result<Checkpoint> {
         let Sizes {
             cipher,
             code,
+            area,
             checkpoint,
             ..
         } = self.sizes;
         let place = Place { position, mark };
-        let mut string = vec![in rt.alloc(); 0u8; checkpoint]?;
-        let done = self.head.write(&self.area, &mut string);
-        let ok = done.answer.is_ok() && is_at(done.head, code, place);
+        let mut string: Checkpoint = buffers::filled(0, checkpoint);
+        let done = self
+            .head
+            .write(self.words.get(..area).unwrap_or(&[]), &mut string);
+        let ok = done.answer == Ok(checkpoint) && is_at(done.head, code, place);
         line(rt, self.head, "write", Ok(()), cipher, place, ok)?;
         Ok(string)
     }

@@ -1,7 +1,7 @@
 // The cases of document 02 (b), spent after a move back, for both ciphers: a line each, `ok` or `wrong`.
 #![tactic(auto)]
 
-use calls::{Bench, Call, Place, SIZES, Sizes, line};
+use calls::{Bench, Call, Checkpoint, Place, SIZES, Sizes, line};
 use engine::Head;
 use engine::answers::Next;
 use refusal::Refusal;
@@ -11,8 +11,8 @@ mod calls;
 
 // The request's own case, an operator who moves back to look at an old entry; then bytes before the mark, up to it, past it and across it; and a move
 // beyond it, where no bytes leave it and one byte raises it. Gives the bench at 20, with the mark 32.
-fn looked_back(rt: &(impl Print + AllocGlobal), sizes: Sizes) -> io::Result<Bench> {
-    let mut bench = Bench::fresh(rt, sizes)?;
+fn looked_back(rt: &impl Print, sizes: Sizes) -> io::Result<Bench> {
+    let mut bench = Bench::fresh(sizes);
     for (call, position, mark) in [
         (Call::SetUp(sizes.key), 0, 0),
         (Call::Cipher(10), 10, 10),
@@ -34,7 +34,7 @@ fn looked_back(rt: &(impl Print + AllocGlobal), sizes: Sizes) -> io::Result<Benc
 
 // Write and recover leave the mark, and so do refused calls: a move before the start and one past the limit, a key that is too short, a string that
 // is empty and one that is cut. Load makes the mark the loaded position. Gives the checkpoint.
-fn kept(rt: &(impl Print + AllocGlobal), bench: &Bench) -> io::Result<Vec<u8>> {
+fn kept(rt: &impl Print, bench: &Bench) -> io::Result<Checkpoint> {
     let string = bench.writes(rt, 20, 32)?;
     let short = bench.sizes.key.saturating_sub(1);
     let cut = match string.split_last() {
@@ -49,18 +49,20 @@ fn kept(rt: &(impl Print + AllocGlobal), bench: &Bench) -> io::Result<Vec<u8>> {
         (Call::Load(&[]), Err(Refusal::EndsEarly)),
         (Call::Load(cut), Err(Refusal::StringLength)),
     ] {
-        bench.clone()?.makes(rt, call, answer, 20, 32)?;
+        let mut copy = *bench;
+        copy.makes(rt, call, answer, 20, 32)?;
     }
     let load = Call::Load(&string);
-    bench.clone()?.makes(rt, load, Ok(()), 20, 20)?;
-    Bench::fresh(rt, bench.sizes)?.makes(rt, load, Ok(()), 20, 20)?;
+    for mut bench in [*bench, Bench::fresh(bench.sizes)] {
+        bench.makes(rt, load, Ok(()), 20, 20)?;
+    }
     Ok(string)
 }
 
 // A mark that is made up for the head at 20 is taken as given: spent gives it, also over the limit, and refuses by code and position alone, the code
 // first; a call of no bytes and a move keep it; one byte gives the larger of it and 21; and load makes it the loaded position.
 fn made_up(
-    rt: &(impl Print + AllocGlobal),
+    rt: &impl Print,
     bench: &Bench,
     string: &[u8],
     mark: u64,
@@ -84,7 +86,7 @@ fn made_up(
         (Call::Cipher(1), 21, larger),
         (Call::Load(string), 20, 20),
     ] {
-        let mut made = bench.clone()?;
+        let mut made = *bench;
         made.head.mark = mark;
         made.makes(rt, call, Ok(()), position, mark_then)?;
     }
@@ -92,7 +94,7 @@ fn made_up(
 }
 
 // At the limit: bytes past it leave the mark, the last byte takes it there, and it stays there after a move back to 0.
-fn at_limit(rt: &(impl Print + AllocGlobal), bench: &mut Bench) -> io::Result<()> {
+fn at_limit(rt: &impl Print, bench: &mut Bench) -> io::Result<()> {
     for (call, answer, position, mark) in [
         (Call::Move(67_108_842), Ok(()), 67_108_862, 32),
         (Call::Cipher(3), Err(Refusal::PastLimit), 67_108_862, 32),
@@ -107,10 +109,10 @@ fn at_limit(rt: &(impl Print + AllocGlobal), bench: &mut Bench) -> io::Result<()
 }
 
 // Set up by a used head starts the mark at 0. From there two lists of calls come to one position with different marks, and write the same checkpoint.
-fn two_lists(rt: &(impl Print + AllocGlobal), mut bench: Bench) -> io::Result<()> {
+fn two_lists(rt: &impl Print, mut bench: Bench) -> io::Result<()> {
     let Sizes { cipher, key, .. } = bench.sizes;
     bench.makes(rt, Call::SetUp(key), Ok(()), 0, 0)?;
-    let mut other = bench.clone()?;
+    let mut other = bench;
     bench.makes(rt, Call::Move(3), Ok(()), 3, 0)?;
     other.makes(rt, Call::Cipher(10), Ok(()), 10, 10)?;
     other.makes(rt, Call::Move(-7), Ok(()), 3, 10)?;
@@ -122,7 +124,7 @@ fn two_lists(rt: &(impl Print + AllocGlobal), mut bench: Bench) -> io::Result<()
 }
 
 // The cases of a cipher. The marks made up are the smallest and the largest, those around the position, and those on both sides of the limit.
-fn of_cipher(rt: &(impl Print + AllocGlobal), sizes: Sizes) -> io::Result<()> {
+fn of_cipher(rt: &impl Print, sizes: Sizes) -> io::Result<()> {
     let mut bench = looked_back(rt, sizes)?;
     let string = kept(rt, &bench)?;
     for (mark, larger) in [

@@ -2,22 +2,22 @@
 // product.
 #![tactic(auto)]
 
+use arrayvec::ArrayVec;
 use comparison::Part;
 use pairs::{Pair, blenders, gauges};
 use refusal::Refusal;
 use refusal::Refusal::{VolumeEnds, VolumeNumber, VolumeRange};
-use std::alloc::Global;
 use std::io;
 
 mod many;
 mod pairs;
 
-// The volume of a list of entries; no bytes where there is none.
-pub fn volume_of(alloc: Global, list: &[u32]) -> io::Result<Vec<u8>> {
-    let mut bytes = vec![in alloc; 0; 2 + 2 * list.len()]?;
+// The volume of a list of entries; no bytes where there is none or it has more than N.
+pub fn volume_of<const N: usize>(list: &[u32]) -> ArrayVec<u8, N> {
+    let mut bytes = ArrayVec::from([0; N]);
     let length = volume::write_volume(list, &mut bytes).unwrap_or(0);
     bytes.truncate(length);
-    Ok(bytes)
+    bytes
 }
 
 // Both have ended, or one of them, which is then a beginning of the other.
@@ -62,19 +62,19 @@ fn ended(rt: &impl Print) -> io::Result<()> {
 
 // Pairs of recordings of one entry each.
 fn of_one_entry(
-    rt: &(impl Print + AllocGlobal),
+    rt: &impl Print,
     cases: &[(&str, [u32; 4], [u32; 4], Result<Part, Refusal>)],
 ) -> io::Result<()> {
     for (name, b, g, expected) in cases {
-        let blender = volume_of(rt.alloc(), b)?;
-        let gauge = volume_of(rt.alloc(), g)?;
+        let blender = volume_of::<9>(b);
+        let gauge = volume_of::<9>(g);
         Pair::new(name, &blender, &gauge, *expected).run(rt)?;
     }
     Ok(())
 }
 
 // Recordings of one entry each. The ratios are equal and another number differs: the blender's, whichever number is the smaller.
-fn equal_ratios(rt: &(impl Print + AllocGlobal)) -> io::Result<()> {
+fn equal_ratios(rt: &impl Print) -> io::Result<()> {
     of_one_entry(
         rt,
         &[
@@ -131,7 +131,7 @@ fn equal_ratios(rt: &(impl Print + AllocGlobal)) -> io::Result<()> {
 }
 
 // The ratios differ: the one with the smaller ratio, whatever the other numbers are, and whatever the bytes of the ratio, which are two from 128 on.
-fn smaller_ratio(rt: &(impl Print + AllocGlobal)) -> io::Result<()> {
+fn smaller_ratio(rt: &impl Print) -> io::Result<()> {
     of_one_entry(
         rt,
         &[

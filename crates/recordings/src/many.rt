@@ -5,15 +5,15 @@ use crate::volume_of;
 use std::io;
 
 // A count of 127 has one byte, and one of 128 has two.
-pub fn around_128(rt: &(impl Print + AllocGlobal)) -> io::Result<()> {
+pub fn around_128(rt: &impl Print) -> io::Result<()> {
     let mut list = [1u32; 512];
-    let of_128 = volume_of(rt.alloc(), &list)?;
-    let of_127 = volume_of(rt.alloc(), &list[..508])?;
+    let of_128 = volume_of::<514>(&list);
+    let of_127 = volume_of::<509>(&list[..508]);
     list[506] = 2; // the ratio of the last entry of 127
-    let ratio_2 = volume_of(rt.alloc(), &list[..508])?;
+    let ratio_2 = volume_of::<509>(&list[..508]);
     list[506] = 1;
     list[505] = 2; // the litres of the last entry of 127
-    let litres_2 = volume_of(rt.alloc(), &list[..508])?;
+    let litres_2 = volume_of::<509>(&list[..508]);
     for pair in [
         Pair::new("127 entries, 128", &of_127, &of_128, gauges(510, 4)),
         Pair::new("128 entries, 127", &of_128, &of_127, blenders(510, 4)),
@@ -60,12 +60,12 @@ pub fn around_128(rt: &(impl Print + AllocGlobal)) -> io::Result<()> {
 }
 
 // The most entries.
-pub fn most(rt: &(impl Print + AllocGlobal)) -> io::Result<()> {
+pub fn most(rt: &impl Print) -> io::Result<()> {
     let mut list = [1u32; 8000];
-    let all = volume_of(rt.alloc(), &list)?;
-    let but_one = volume_of(rt.alloc(), &list[..7996])?;
+    let all = volume_of::<8002>(&list);
+    let but_one = volume_of::<7998>(&list[..7996]);
     list[7998] = 0; // the ratio of the last entry
-    let ratio_0 = volume_of(rt.alloc(), &list)?;
+    let ratio_0 = volume_of::<8002>(&list);
     for pair in [
         Pair::new("2000 entries, the same", &all, &all, blenders(8002, 0)),
         Pair::new("2000 entries, 1999", &all, &but_one, blenders(7998, 4)),

@@ -33,27 +33,28 @@ pub const SIZES: [Sizes; 2] = [
 ];
 
 // The bytes that a write by a head puts into a buffer of zeros.
-fn written(rt: &impl AllocGlobal, head: Head, area: &[u32]) -> io::Result<Vec<u8>> {
-    let mut lent = vec![in rt.alloc(); 0u8; 8197]?;
+fn written(head: Head, area: &[u32]) -> [u8; 8197] {
+    let mut lent = [0u8; 8197];
     head.write(area, &mut lent);
-    Ok(lent)
+    lent
 }
 
-// The line of a load that is accepted, from a head that was made up.
-pub fn accepts(
-    rt: &(impl Print + AllocGlobal),
-    sizes: Sizes,
-    seed: u32,
-    count: u64,
-    position: u64,
-    mark: u64,
-) -> io::Result<()> {
-    let Sizes { cipher, code, .. } = sizes;
-    let key = vec![in rt.alloc(); 5u8; sizes.key]?;
-    let iv = vec![in rt.alloc(); 5u8; sizes.iv]?;
-    let mut area = vec![in rt.alloc(); 7u32; sizes.area]?;
+// Whether a load from a head that was made up is accepted and ends so, and a write then gives what it gives after a set up and a move to the position.
+// Key, IV and area are the first of as many as the larger cipher has.
+fn ends_at(sizes: Sizes, seed: u32, count: u64, position: u64, mark: u64) -> bool {
+    let code = sizes.code;
+    let key = [5u8; 32];
+    let iv = [5u8; 32];
+    let mut area = [7u32; 2048];
+    let (Some(key), Some(iv), Some(area)) = (
+        key.get(..sizes.key),
+        iv.get(..sizes.iv),
+        area.get_mut(..sizes.area),
+    ) else {
+        return false;
+    };
     let before = Head::at(9, 67_108_865, 8, 7);
-    let loaded = test_load::test_load(before, seed, count, code, &key, &iv, &mut area);
+    let loaded = test_load::test_load(before, seed, count, code, key, iv, area);
     let head = loaded.head;
     let there = Head::at(code, position, head.word, mark);
     let spent = Next {
@@ -61,13 +62,25 @@ pub fn accepts(
         answer: Ok(mark),
     };
     let ended = loaded.answer.is_ok() && head == there && head.spent() == spent;
-    let first = written(rt, head, &area)?;
+    let first = written(head, area);
 
-    let start = Head::fresh().set_up(code, &key, &iv, &mut area);
-    let moved = move_to::move_to(start.head, &mut area, position);
-    let second = written(rt, moved.head, &area)?;
+    let start = Head::fresh().set_up(code, key, iv, area);
+    let moved = move_to::move_to(start.head, area, position);
+    let second = written(moved.head, area);
+    ended && first == second
+}
 
-    let word = if ended && first == second {
+// The line of a load that is accepted, from a head that was made up.
+pub fn accepts(
+    rt: &impl Print,
+    sizes: Sizes,
+    seed: u32,
+    count: u64,
+    position: u64,
+    mark: u64,
+) -> io::Result<()> {
+    let cipher = sizes.cipher;
+    let word = if ends_at(sizes, seed, count, position, mark) {
         "ok"
     } else {
         "wrong"

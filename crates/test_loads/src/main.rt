@@ -39,7 +39,7 @@ const ACCEPTED: [(u32, u64, u64, u64); 22] = [
 
 // Each refusal by itself, at the edges of its range; then each refusal before the one that comes next, and the first two before all others. Key and IV
 // are to have m bytes each, and the area n words.
-fn refused(rt: &(impl Print + AllocGlobal), sizes: Sizes) -> io::Result<()> {
+fn refused(rt: &impl Print, sizes: Sizes) -> io::Result<()> {
     let code = sizes.code;
     let (m, n) = (sizes.key, sizes.area);
     let (short, long) = (m.saturating_sub(1), m.saturating_add(1));

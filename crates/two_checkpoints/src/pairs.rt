@@ -5,7 +5,7 @@ use std::io;
 
 // One run: the same position; positions inside one word, which have the same tables; positions on both sides of a word's end, of the places where the
 // position gets a group more, and of the ends of a table's turn; the start and the end of the stream. Each pair in both orders.
-pub fn one_run(rt: &(impl Print + AllocGlobal), run: Run) -> io::Result<()> {
+pub fn one_run(rt: &impl Print, run: Run) -> io::Result<()> {
     let cipher = run.cipher;
     for (p, q) in [
         (0, 0),
@@ -22,8 +22,8 @@ pub fn one_run(rt: &(impl Print + AllocGlobal), run: Run) -> io::Result<()> {
         (0, 67_108_864),
         (67_108_863, 67_108_864),
     ] {
-        let a = run.checkpoint(rt.alloc(), p)?;
-        let b = run.checkpoint(rt.alloc(), q)?;
+        let a = run.checkpoint(p);
+        let b = run.checkpoint(q);
         check(
             rt,
             format_args!("{cipher} at {p} and {q}"),
@@ -50,7 +50,7 @@ fn changed(bytes: [u8; 32], at: usize) -> [u8; 32] {
 }
 
 // Runs whose key and IV differ in one bit of their first or last byte, or are exchanged, at one position and at two. Each pair in both orders.
-pub fn other_runs(rt: &(impl Print + AllocGlobal), run: Run) -> io::Result<()> {
+pub fn other_runs(rt: &impl Print, run: Run) -> io::Result<()> {
     let Run { cipher, key, iv } = run;
     let last = key_bytes(cipher) - 1;
     for (p, q) in [(0, 0), (5, 5), (777, 20)] {
@@ -62,8 +62,8 @@ pub fn other_runs(rt: &(impl Print + AllocGlobal), run: Run) -> io::Result<()> {
             ("key and IV exchanged", iv, key),
         ] {
             let other = Run { cipher, key, iv };
-            let a = run.checkpoint(rt.alloc(), p)?;
-            let b = other.checkpoint(rt.alloc(), q)?;
+            let a = run.checkpoint(p);
+            let b = other.checkpoint(q);
             check(
                 rt,
                 format_args!("{cipher} at {p} and {q}, {case}"),

@@ -1,20 +1,19 @@
 // The refusals of load, 4 excepted, of the first string and of the second, and 23.
 use crate::check;
-use crate::strings::{Run, beginning, change, length};
+use crate::strings::{Run, Stored, beginning, change, length};
 use cipher::Cipher;
 use refusal::Refusal;
 use refusal::Refusal::{
     BadCode, BadNumber, BadPosition, EndsEarly, NoKey, StringLength, TwoCiphers,
 };
-use std::alloc::Global;
 use std::io;
 
 // Checkpoints of different ciphers, this one's first.
-pub fn two_ciphers(rt: &(impl Print + AllocGlobal), run: Run) -> io::Result<()> {
+pub fn two_ciphers(rt: &impl Print, run: Run) -> io::Result<()> {
     let cipher = run.cipher;
     for (p, q) in [(0, 0), (5, 777)] {
-        let own = run.checkpoint(rt.alloc(), p)?;
-        let spare = run.by_other_cipher().checkpoint(rt.alloc(), q)?;
+        let own = run.checkpoint(p);
+        let spare = run.by_other_cipher().checkpoint(q);
         let case = format_args!("{cipher} at {p}, the other cipher at {q}");
         check(rt, case, &own, &spare, Err(TwoCiphers))?;
     }
@@ -73,12 +72,12 @@ impl Beside<'_> {
 
 // Strings that only begin as a checkpoint: each with its code, the groups of its position, its length and the refusal.
 fn beginnings(
-    rt: &(impl Print + AllocGlobal),
+    rt: &impl Print,
     beside: Beside<'_>,
     rows: &[(&str, u8, [u8; 4], usize, Refusal)],
 ) -> io::Result<()> {
     for (case, code, position, length, refusal) in rows {
-        let string = beginning(rt.alloc(), *code, *position, *length)?;
+        let string = beginning(*code, *position, *length)?;
         beside.refuses(rt, case, &string, *refusal)?;
     }
     Ok(())
@@ -86,9 +85,9 @@ fn beginnings(
 
 // One string that load refuses. It is without a cipher; or has a position that is cut, too long, not in shortest form or over the limit; or words that
 // are too few, too many, or of no key and IV, also those of a true checkpoint that states another position.
-pub fn one_refused(rt: &(impl Print + AllocGlobal), run: Run) -> io::Result<()> {
-    let own = run.checkpoint(rt.alloc(), 5)?;
-    let spare = run.by_other_cipher().checkpoint(rt.alloc(), 5)?;
+pub fn one_refused(rt: &impl Print, run: Run) -> io::Result<()> {
+    let own = run.checkpoint(5);
+    let spare = run.by_other_cipher().checkpoint(5);
     let beside = Beside {
         cipher: run.cipher,
         own: &own,
@@ -163,7 +162,7 @@ pub fn one_refused(rt: &(impl Print + AllocGlobal), run: Run) -> io::Result<()> 
     string.pop();
     beside.refuses(rt, "a byte too few", &string, StringLength)?;
     let mut string = own.clone()?;
-    string.push(0)?;
+    string.extend([0])?;
     beside.refuses(rt, "a byte too many", &string, StringLength)?;
     beginnings(
         rt,
@@ -195,21 +194,21 @@ pub fn one_refused(rt: &(impl Print + AllocGlobal), run: Run) -> io::Result<()> 
 }
 
 // A string that load refuses so.
-fn refused_with(alloc: Global, run: Run, refusal: Refusal) -> io::Result<Vec<u8>> {
+fn refused_with(run: Run, refusal: Refusal) -> io::Result<Stored> {
     let code = run.code_byte();
     match refusal {
-        EndsEarly => Ok(Vec::new(alloc)),
-        BadCode => beginning(alloc, 0, [0, 0, 0, 0], 9),
-        BadNumber => beginning(alloc, code, [128, 0, 0, 0], 9),
-        BadPosition => beginning(alloc, code, [129, 128, 128, 32], 9),
-        StringLength => beginning(alloc, code, [0, 0, 0, 0], 9),
-        _ => beginning(alloc, code, [0, 0, 0, 0], length(run.cipher, 1)),
+        EndsEarly => Ok(Stored::new()),
+        BadCode => beginning(0, [0, 0, 0, 0], 9),
+        BadNumber => beginning(code, [128, 0, 0, 0], 9),
+        BadPosition => beginning(code, [129, 128, 128, 32], 9),
+        StringLength => beginning(code, [0, 0, 0, 0], 9),
+        _ => beginning(code, [0, 0, 0, 0], length(run.cipher, 1)),
     }
 }
 
 // Both strings are refused, and the answer is the first one's refusal: every two different refusals of load, in both orders; and a second string that
 // is of the other cipher.
-pub fn two_refused(rt: &(impl Print + AllocGlobal), run: Run) -> io::Result<()> {
+pub fn two_refused(rt: &impl Print, run: Run) -> io::Result<()> {
     let cipher = run.cipher;
     let refusals = [
         EndsEarly,
@@ -222,8 +221,8 @@ pub fn two_refused(rt: &(impl Print + AllocGlobal), run: Run) -> io::Result<()> 
     for refusal in refusals {
         for other in refusals {
             if refusal != other {
-                let first = refused_with(rt.alloc(), run, refusal)?;
-                let second = refused_with(rt.alloc(), run, other)?;
+                let first = refused_with(run, refusal)?;
+                let second = refused_with(run, other)?;
                 let (n, m) = (u64::from(refusal), u64::from(other));
                 let case = format_args!("{cipher} refused with {n} and {m}");
                 check(rt, case, &first, &second, Err(refusal))?;
@@ -231,8 +230,8 @@ pub fn two_refused(rt: &(impl Print + AllocGlobal), run: Run) -> io::Result<()> 
         }
     }
     for other in [NoKey, StringLength] {
-        let first = refused_with(rt.alloc(), run, NoKey)?;
-        let second = refused_with(rt.alloc(), run.by_other_cipher(), other)?;
+        let first = refused_with(run, NoKey)?;
+        let second = refused_with(run.by_other_cipher(), other)?;
         let m = u64::from(other);
         let case = format_args!("{cipher} refused with 12 and, of the other cipher, {m}");
         check(rt, case, &first, &second, Err(NoKey))?;

@@ -1,10 +1,14 @@
 // The strings of the cases: checkpoints of a run at a position, others that are changed, and others that only begin as one.
 ghost use Rattle.std.specs.Prelude.{◌≤◌};
 
+use arrayvec::ArrayVec;
+use buffers::filled;
 use cipher::Cipher;
 use engine::Head;
-use std::alloc::Global;
-use std::io;
+use std::{io, iter};
+
+// A string: as many bytes as the longest checkpoint has, and one more, at most.
+pub type Stored = ArrayVec<u8, 8198>;
 
 // The bytes of a cipher's key, and of its IV. Its area has 64 words for each.
 pub fn key_bytes(cipher: Cipher) -> usize
@@ -26,17 +30,18 @@ pub struct Run {
 
 impl Run {
     // The checkpoint at a position.
-    pub fn checkpoint(&self, alloc: Global, position: u32) -> io::Result<Vec<u8>> {
+    pub fn checkpoint(&self, position: u32) -> Stored {
         let n = key_bytes(self.cipher);
         let key = &self.key[..n];
         let iv = &self.iv[..n];
-        let mut area = vec![in alloc; 0; 64 * n]?;
-        let mut bytes = vec![in alloc; 0; length(self.cipher, 4)]?;
-        let start = Head::fresh().set_up(self.code_byte().into(), key, iv, &mut area);
-        let there = start.head.move_by(&mut area, position.into());
-        let written = there.head.write(&area, &mut bytes);
+        let mut words = [0; 2048];
+        let area = &mut words[..64 * n];
+        let mut bytes: Stored = filled(0, length(self.cipher, 4));
+        let start = Head::fresh().set_up(self.code_byte().into(), key, iv, area);
+        let there = start.head.move_by(area, position.into());
+        let written = there.head.write(area, &mut bytes);
         bytes.truncate(written.answer.unwrap_or(0));
-        Ok(bytes)
+        bytes
     }
 
     // The code of the cipher as a checkpoint has it.
@@ -70,10 +75,11 @@ pub fn change(bytes: &mut [u8], at: usize) {
 }
 
 // A code and the groups of a position, and 0 after them, in a string of this length.
-pub fn beginning(alloc: Global, code: u8, position: [u8; 4], length: usize) -> io::Result<Vec<u8>> {
-    let mut bytes = Vec::new(alloc);
-    bytes.push(code)?;
+pub fn beginning(code: u8, position: [u8; 4], length: usize) -> io::Result<Stored> {
+    let mut bytes = Stored::new();
+    bytes.push(code);
     bytes.extend(position)?;
-    bytes.resize(length, 0)?;
+    bytes.extend(iter::repeat_n(0, length.saturating_sub(5)))?;
+    bytes.truncate(length);
     Ok(bytes)
 }

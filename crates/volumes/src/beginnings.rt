@@ -41,26 +41,24 @@ pub fn judges(rt: &impl Print, case: &str, string: &[u8], answer: Soundness) -> 
 }
 
 // Judges each string of a table of volumes.
-pub fn sound_each(rt: &(impl Print + AllocGlobal), table: &str) -> io::Result<()> {
+pub fn sound_each(rt: &impl Print, table: &str) -> io::Result<()> {
     each(
-        rt,
         table,
         |case, string, _| judges(rt, case, string, Soundness::Sound),
     )
 }
 
 // Judges each string of a table of strings that are cut.
-pub fn cut_each(rt: &(impl Print + AllocGlobal), table: &str) -> io::Result<()> {
+pub fn cut_each(rt: &impl Print, table: &str) -> io::Result<()> {
     each(
-        rt,
         table,
         |case, string, _| judges(rt, case, string, Soundness::Cut),
     )
 }
 
 // Judges each string of a table of hopeless ones. Its number is the length at which it became so.
-pub fn hopeless_each(rt: &(impl Print + AllocGlobal), table: &str) -> io::Result<()> {
-    each(rt, table, |case, string, numbers| {
+pub fn hopeless_each(rt: &impl Print, table: &str) -> io::Result<()> {
+    each(table, |case, string, numbers| {
         let [length] = numbers else {
             return no_numbers(rt, case);
         };

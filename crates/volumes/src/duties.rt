@@ -36,8 +36,8 @@ pub fn refuses_as_reading(
 }
 
 // Takes the duty on each string of a table under our rates. Its numbers are the refusal number and the cents.
-pub fn owe_each(rt: &(impl Print + AllocGlobal), table: &str) -> io::Result<()> {
-    each(rt, table, |case, string, numbers| {
+pub fn owe_each(rt: &impl Print, table: &str) -> io::Result<()> {
+    each(table, |case, string, numbers| {
         let [refusal, cents] = numbers else {
             return no_numbers(rt, case);
         };

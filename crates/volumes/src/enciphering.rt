@@ -1,10 +1,10 @@
 // Enciphering a volume in its buffer, beside a cipher call on a copy.
 use crate::lent::read_is;
-use crate::table::{each, line, no_numbers};
+use crate::table::{each, line, no_numbers, no_room};
+use arrayvec::ArrayVec;
 use cipher::Cipher;
 use engine::Head;
 use engine::answers::Next;
-use std::alloc::Global;
 use std::io;
 
 // With which head and area a volume is enciphered: whether the head has the cipher's code, or else 0; its position and mark; what its word is changed
@@ -24,8 +24,8 @@ struct Row {
 #[derive(PartialEq, Eq, Drop)]
 struct Bench {
     head: Head,
-    area: Vec<u32>,
-    bytes: Vec<u8>,
+    area: ArrayVec<u32, 2048>,
+    bytes: ArrayVec<u8, 32>,
 }
 
 impl Row {
@@ -47,23 +47,23 @@ impl Row {
 
     // Sets up an area, with the same bytes for key and IV, and moves it to the position of the row, modulo 1,000. An area that is short stays as it
     // is, for set up and move refuse it.
-    fn prepare(self, alloc: Global, volume: &[u8]) -> io::Result<Bench> {
+    fn prepare(self, volume: &[u8]) -> io::Result<Bench> {
         let words = self.cipher.area_words().saturating_sub(self.short);
-        let mut area = vec![in alloc; 0; words]?;
+        let mut area = buffers::filled(0, words);
         let key = [5; 32];
         let key = &key[..self.cipher.key_bytes()];
         let start = Head::fresh().set_up(self.cipher.code(), key, key, &mut area);
         start.head.move_by(&mut area, (self.position % 1000).into());
         let head = self.head_on(&area);
-        let bytes = volume.to_vec(alloc)?;
+        let bytes = ArrayVec::try_from(volume).map_err(no_room)?;
         Ok(Bench { head, area, bytes })
     }
 
     // Whether the volume is enciphered, and leaves head, area and bytes as cipher leaves them; and a move back and cipher then bring it back. Where the
     // row is refused, whether everything stays. The first two of the ends are the position and the mark after the call, the others the entries.
-    fn is_right(self, alloc: Global, volume: &[u8], ends: &[u32]) -> io::Result<bool> {
-        let mut bench = self.prepare(alloc, volume)?;
-        let mut own = self.prepare(alloc, volume)?;
+    fn is_right(self, volume: &[u8], ends: &[u32]) -> io::Result<bool> {
+        let mut bench = self.prepare(volume)?;
+        let mut own = self.prepare(volume)?;
         let next = bench
             .head
             .encipher_volume(&mut bench.area, &mut bench.bytes);
@@ -94,19 +94,15 @@ impl Row {
                 && head.position == u64::from(*position)
                 && head.mark == u64::from(*mark)
                 && bytes.as_slice() == volume
-                && read_is(alloc, &bytes, 9, 0, entries)?,
+                && read_is(&bytes, 9, 0, entries),
         )
     }
 }
 
 // Enciphers each volume of a table for a cipher. Its numbers are those of a row, where 1 says that the head has the cipher's code, and where the refusal
 // number is 0 the position and the mark after the call, and the numbers of the volume's entries.
-pub fn encipher_each(
-    rt: &(impl Print + AllocGlobal),
-    cipher: Cipher,
-    table: &str,
-) -> io::Result<()> {
-    each(rt, table, |case, volume, numbers| {
+pub fn encipher_each(rt: &impl Print, cipher: Cipher, table: &str) -> io::Result<()> {
+    each(table, |case, volume, numbers| {
         let [known, position, mark, change, short, refusal, ends @ ..] = numbers else {
             return no_numbers(rt, case);
         };
@@ -119,7 +115,7 @@ pub fn encipher_each(
             short: *short as usize,
             refusal: u64::from(*refusal),
         };
-        let is_right = row.is_right(rt.alloc(), volume, ends)?;
+        let is_right = row.is_right(volume, ends)?;
         let call = format_args!("{cipher} encipher");
         line(rt, call, case, row.refusal, is_right)
     })

@@ -58,8 +58,8 @@ fn is_right(string: &[u8], refusal: u64, numbers: &[u32]) -> bool {
 }
 
 // Loads each string of a table. Its numbers are the refusal number and, where it is 0, the eight rates.
-pub fn load_each(rt: &(impl Print + AllocGlobal), table: &str) -> io::Result<()> {
-    each(rt, table, |case, string, numbers| {
+pub fn load_each(rt: &impl Print, table: &str) -> io::Result<()> {
+    each(table, |case, string, numbers| {
         let [refusal, rates @ ..] = numbers else {
             return no_numbers(rt, case);
         };

@@ -2,37 +2,43 @@
 use crate::beginnings::judges;
 use crate::duties::owes;
 use crate::lent::{reads, writes};
+use crate::table::no_room;
+use arrayvec::ArrayVec;
 use rates::Rates;
 use soundness::Soundness;
-use std::alloc::Global;
 use std::io;
 
-// What stands first, and then an entry 2,000 times.
-fn and_2000<T: Copy>(alloc: Global, first: &[T], entry: &[T]) -> io::Result<Vec<T>> {
-    let mut all = Vec::new(alloc);
-    all.extend(first)?;
+// Puts what stands first into a buffer, and then an entry 2,000 times.
+fn put_and_2000<T: Copy + Drop, const N: usize>(
+    all: &mut ArrayVec<T, N>,
+    first: &[T],
+    entry: &[T],
+) -> io::Result<()> {
+    all.try_extend_from_slice(first).map_err(no_room)?;
     for _ in 0..2000 {
-        all.extend(entry)?;
+        all.try_extend_from_slice(entry).map_err(no_room)?;
     }
-    Ok(all)
+    Ok(())
 }
 
-// The volume of 2,000 entries of these bytes, after its count.
-fn volume_of(alloc: Global, entry: &[u8]) -> io::Result<Vec<u8>> {
-    and_2000(alloc, b"\xd0\x0f", entry)
+// Puts the volume of 2,000 entries of these bytes into a buffer: its count and the entries.
+fn put_volume<const N: usize>(all: &mut ArrayVec<u8, N>, entry: &[u8]) -> io::Result<()> {
+    put_and_2000(all, b"\xd0\x0f", entry)
 }
 
 // A list of 2,000 entries of these four numbers, its volume, in which each has these bytes, and its duty. A byte more is lent than the volume has, and
 // an element more than its entries have.
 fn alike(
-    rt: &(impl Print + AllocGlobal),
+    rt: &impl Print,
     case: &str,
     numbers: [u32; 4],
     entry: &[u8],
     cents: u64,
 ) -> io::Result<()> {
-    let list = and_2000(rt.alloc(), &[], &numbers)?;
-    let string = volume_of(rt.alloc(), entry)?;
+    let mut list: ArrayVec<u32, 8000> = ArrayVec::new();
+    put_and_2000(&mut list, &[], &numbers)?;
+    let mut string: ArrayVec<u8, 16_002> = ArrayVec::new();
+    put_volume(&mut string, entry)?;
     writes(rt, case, &list, string.len() + 1, 0, &string)?;
     reads(rt, case, &string, list.len() + 1, 0, &list)?;
     owes(rt, Rates::ours(), case, &string, 0, cents)
@@ -40,7 +46,7 @@ fn alike(
 
 // The smallest entry has 4 bytes and the largest 8, and the count of 2,000 has 2. The third owes the most of any volume under our rates and, where
 // the rate of product 1 is 65,535, under any table.
-pub fn most(rt: &(impl Print + AllocGlobal)) -> io::Result<()> {
+pub fn most(rt: &impl Print) -> io::Result<()> {
     let largest = b"\xa0\x0b\xa0\x8d\x06\x90\x4e\x08";
     let largest_of_1 = b"\xa0\x0b\xa0\x8d\x06\x90\x4e\x01";
     alike(rt, "2000 smallest", [0, 0, 0, 1], b"\x00\x00\x00\x01", 0)?;
@@ -52,18 +58,21 @@ pub fn most(rt: &(impl Print + AllocGlobal)) -> io::Result<()> {
         largest_of_1,
         24_000_000_000,
     )?;
+    let mut string: ArrayVec<u8, 16_002> = ArrayVec::new();
+    put_volume(&mut string, largest_of_1)?;
     owes(
         rt,
         Rates {
             cents: [65_535, 0, 0, 0, 0, 0, 0, 0],
         },
         "2000 largest of product 1 at rate 65535",
-        &volume_of(rt.alloc(), largest_of_1)?,
+        &string,
         0,
         13_107_000_000_000,
     )?;
-    let mut longer = volume_of(rt.alloc(), largest)?;
-    longer.push(0xa0)?;
+    let mut longer: ArrayVec<u8, 16_003> = ArrayVec::new();
+    put_volume(&mut longer, largest)?;
+    longer.try_push(0xa0).map_err(no_room)?;
     judges(
         rt,
         "2000 largest and a byte",
@@ -73,11 +82,13 @@ pub fn most(rt: &(impl Print + AllocGlobal)) -> io::Result<()> {
 }
 
 // More than 2,000 entries, also where a number is out of its range and no bytes are lent; and a list that is not whole entries besides.
-pub fn over(rt: &(impl Print + AllocGlobal)) -> io::Result<()> {
+pub fn over(rt: &impl Print) -> io::Result<()> {
     let smallest = [0, 0, 0, 1];
-    let list = and_2000(rt.alloc(), &smallest, &smallest)?;
+    let mut list: ArrayVec<u32, 8004> = ArrayVec::new();
+    put_and_2000(&mut list, &smallest, &smallest)?;
     writes(rt, "2001 entries", &list, 16_016, 15, b"")?;
-    let mut list = and_2000(rt.alloc(), &[0, 100_001, 0, 1], &smallest)?;
+    let mut list: ArrayVec<u32, 8005> = ArrayVec::new();
+    put_and_2000(&mut list, &[0, 100_001, 0, 1], &smallest)?;
     writes(
         rt,
         "2001 entries, litres 100001, none lent",
@@ -86,7 +97,7 @@ pub fn over(rt: &(impl Print + AllocGlobal)) -> io::Result<()> {
         15,
         b"",
     )?;
-    list.push(0)?;
+    list.try_push(0).map_err(no_room)?;
     writes(
         rt,
         "8005 numbers, litres 100001, none lent",
