@@ -6,7 +6,7 @@ ghost use Rattle.refusal.specs.Numbers.{number_in};
 ghost use Rattle.refusal.specs.Told.{told_as};
 ghost use Rattle.volume.specs.Found.{value_from};
 ghost use Rattle.volume.specs.Calls.{read_value};
-ghost use Rattle.rates.specs.Rates.{our_rates};
+ghost use Rattle.rates.specs.Rates.{our_rates, rate_of};
 ghost use Rattle.rates.specs.Calls as Calls;
 ghost use Rattle.rates.specs.Found.{pair_from};
 
@@ -47,12 +47,31 @@ pub struct Pair {
     pub rate: u32,
 }
 
+// Our rate of a product.
+fn our_rate(product: u32) -> u16
+    requires { (1 ≤ product) × (product ≤ 8) }
+    ensures { result ≡ rate_of our_rates product }
+{
+    RATES[(product - 1) as usize]
+}
+
 impl Rates {
     // Our table, which is in use until a refinery has loaded its own.
     pub fn ours() -> Rates
         ensures { result.cents ≡ our_rates }
     {
-        Rates { cents: RATES }
+        Rates {
+            cents: [
+                our_rate(1),
+                our_rate(2),
+                our_rate(3),
+                our_rate(4),
+                our_rate(5),
+                our_rate(6),
+                our_rate(7),
+                our_rate(8),
+            ],
+        }
     }
 }
 

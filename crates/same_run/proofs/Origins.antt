@@ -58,5 +58,13 @@ module _ (c : Cipher) (v w : List ℕ) (v-long : length v ≡ 16) (w-long : leng
   there : v ≡ w → same (key_of c v) (key_of c w) && same (iv_of c v) (iv_of c w) ≡ true
   there e = rw (equal_same (key_of c v) (key_of c w) (ap (key_of c) e)) (equal_same (iv_of c v) (iv_of c w) (ap (iv_of c) e))
 
-  pub words_same : pointwise eqb v w ≡ same (key_of c v) (key_of c w) && same (iv_of c v) (iv_of c w)
-  words_same = true_alike _ _ (λ e. there ((bytes_decides v w).0 e)) (λ e. (bytes_decides v w).1 (back e))
+  pub words_same : same v w ≡ same (key_of c v) (key_of c w) && same (iv_of c v) (iv_of c w)
+  words_same = true_alike _ _ (λ e. there (same_equal v w e)) (λ e. equal_same v w (back e))
+
+  -- the same of what `==` tells
+  pub words_equal : pointwise eqb v w ≡ same (key_of c v) (key_of c w) && same (iv_of c v) (iv_of c w)
+  words_equal =
+      true_alike (pointwise eqb v w) (same v w)
+      (λ e. equal_same v w ((bytes_decides v w).0 e))
+      (λ e. (bytes_decides v w).1 (same_equal v w e))
+      ∙ words_same

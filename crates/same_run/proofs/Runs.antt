@@ -13,13 +13,13 @@ use Rattle.conditions.specs.Conditions.{Contents, string_check}
 use Rattle.same_run.specs.declared.Origin.{Origin}
 use Rattle.same_run.specs.Found.{OriginOf}
 use Rattle.same_run.specs.SameRun.{same_key_and_iv, same_run}
-use Rattle.same_run.proofs.Origins.{words_same}
+use Rattle.same_run.proofs.Origins.{words_equal}
 
 module _ (a b : Origin) (l m : Contents) (g : OriginOf a l) (h : OriginOf b m) (c : b.cipher ≡ a.cipher) where
   pub same_origins : length a.words ≡ 16 → length b.words ≡ 16 → AllWords a.words → AllWords b.words
       → pointwise eqb a.words b.words ≡ same_key_and_iv l m
   same_origins a-long b-long a-ok b-ok =
-      words_same a.cipher a.words b.words a-long b-long a-ok b-ok g.doubled_is (rw c at h.doubled_is)
+      words_equal a.cipher a.words b.words a-long b-long a-ok b-ok g.doubled_is (rw c at h.doubled_is)
       ∙ rw (g.key_is, g.iv_is, h.key_is, h.iv_is, c)
 
   pub answered : (first second : List ℕ) → string_check first ≡ accepted l → string_check second ≡ accepted m

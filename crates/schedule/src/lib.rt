@@ -119,7 +119,7 @@ pub fn fill(cipher: Cipher, w: [u32; 16], area: &mut [u32])
 {
     let half = half_table(cipher);
     let v = expand(w, 0, &mut area[..half - 16]);
-    expand(v, half - 16, area);
+    expand(v, half - 16, &mut area[..cipher.expansion_words() - half]);
 }
 
 // Whether all of the area is the expansion of the words that it leads back to: from the seventeenth on, each is made of those before it.
